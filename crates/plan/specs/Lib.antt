@@ -1,0 +1,4 @@
+pub mod Orders
+pub mod Plans
+pub mod Refusals
+pub mod Registers
