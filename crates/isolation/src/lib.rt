@@ -1,0 +1,7 @@
+//! The isolation layer: any register, with junctions shut and opened above it.
+
+mod layer;
+mod state;
+
+pub use layer::Isolation;
+pub use state::State;
