@@ -197,6 +197,66 @@ ordered-from-all n us long once all =
 pub ordered-of : (n : ℕ) (us : List ℕ) → IsOrder n us → ordered n us ≡ true
 ordered-of n us o = ordered-from-all n us (o .long) (o .once) (o .all)
 
+-- what no two indices share stands in the list once at most
+once-times : (us : List ℕ) → ((i j : ℕ) → i < j → j < length us → getD us i 0 ≡ getD us j 0 → ⊥) → (v : ℕ) → times v us ≤ 1
+once-times us once v = go (cases-lt 0 (times v us))
+  where
+    same : (i j : ℕ) → i < length us → j < length us → getD us i 0 ≡ v → getD us j 0 ≡ v → j ≡ i
+    same i j a b d e = at (cases-lt i j) (cases-lt j i)
+      where
+        at : (i < j) ⊎ (j ≤ i) → (j < i) ⊎ (i ≤ j) → j ≡ i
+        at (inl l) s = absurd (once i j l b (d ∙ sym e))
+        at (inr l) (inl k) = absurd (once j i k a (e ∙ sym d))
+        at (inr l) (inr k) = omega arith
+
+    go : (0 < times v us) ⊎ (times v us ≤ 0) → times v us ≤ 1
+    go (inr h) = omega arith
+    go (inl h) =
+        let r : (i : ℕ) × (i < length us) × (getD us i 0 ≡ v) = times-index v us h in
+        omega (arith, one-index-times us (r .0) v (r .1) (r .2) (λ j l e. same (r .0) j (r .1) l (r .2) e))
+
+total-all : (n : ℕ) (us : List ℕ) → ((i : ℕ) → i < length us → (1 ≤ getD us i 0) × (getD us i 0 ≤ n)) → total n us ≡ length us
+total-all n [] h = total-none n
+total-all n (u ∷ us) h = go (total-cons n u us) (total-all n us (λ i l. h (suc i) (omega arith)))
+  where
+    go : ((total n (u ∷ us) ≡ total n us + 1) × (1 ≤ u) × (u ≤ n)) ⊎ ((total n (u ∷ us) ≡ total n us) × ((1 ≤ u) × (u ≤ n) → ⊥)) → total n us ≡ length us → total n (u ∷ us) ≡ suc (length us)
+    go (inl r) rest = omega arith
+    go (inr r) rest = absurd (r .1 (h 0 (omega arith)))
+
+total-at-most : (n : ℕ) (us : List ℕ) → ((v : ℕ) → times v us ≤ 1) → total n us ≤ n
+unfolding total
+total-at-most zero us h = omega arith
+total-at-most (suc n) us h = omega (arith, total-at-most n us h, h (suc n))
+
+total-lack : (n : ℕ) (us : List ℕ) → ((v : ℕ) → times v us ≤ 1) → (v : ℕ) → 1 ≤ v → v ≤ n → times v us ≡ 0 → total n us < n
+unfolding total
+total-lack zero us h v a b e = absurd (omega arith)
+total-lack (suc n) us h v a b e = go (cases-eq v (suc n)) (total-lack n us h v a)
+  where
+    go : (v ≡ suc n) ⊎ (v ≡ suc n → ⊥) → (v ≤ n → times v us ≡ 0 → total n us < n) → total (suc n) us < suc n
+    go (inl d) rest =
+        let z : times (suc n) us ≡ 0 = rw d at e in
+        omega (arith, total-at-most n us h)
+    go (inr ne) rest = omega (arith, h (suc n), rest (omega arith) e)
+
+-- pigeonhole: n entries of 1 to n, no two alike, are all of 1 to n
+pub ordered-from-each : (n : ℕ) (us : List ℕ) → length us ≡ n → ((i : ℕ) → i < n → (1 ≤ getD us i 0) × (getD us i 0 ≤ n)) → ((i j : ℕ) → i < j → j < n → getD us i 0 ≡ getD us j 0 → ⊥) → ordered n us ≡ true
+ordered-from-each n us long each once =
+    and-from (eqb (length us) n) (each-once n us) (eq-eqb (length us) n long) (times-each-once n us one)
+  where
+    most : (v : ℕ) → times v us ≤ 1
+    most = once-times us (λ i j l k. once i j l (omega (arith, long)))
+
+    full : total n us ≡ length us
+    full = total-all n us (λ i l. each i (omega (arith, long)))
+
+    one : (v : ℕ) → 1 ≤ v → v ≤ n → times v us ≡ 1
+    one v a b = go (cases-eq (times v us) 0)
+      where
+        go : (times v us ≡ 0) ⊎ (times v us ≡ 0 → ⊥) → times v us ≡ 1
+        go (inl z) = absurd (omega (arith, full, long, total-lack n us most v a b z))
+        go (inr ne) = omega (arith, most v)
+
 -- the place is that of the first entry alike
 pub place-first : (us : List ℕ) (i v : ℕ) → i < length us → getD us i 0 ≡ v → ((j : ℕ) → j < i → getD us j 0 ≡ v → ⊥) → place us v ≡ suc i
 place-first [] i v h e before = absurd (omega arith)

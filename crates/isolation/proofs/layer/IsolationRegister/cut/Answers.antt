@@ -10,7 +10,7 @@ pub returns-then-isolates : need.returns-then-isolates
 returns-then-isolates g c =
     let p = g .R·ReadablePlan .meaning (c .args .self .now .below) in
     let o = opens (c .args .self .now .states .table) in
-    cut-refused (through p o) _ _ _ 11 [] (isolated-cut p o (c .args .v .0) (c .args .w .0) (sym (c .if-isolates .ensures tt)) )
+    cut-refused (through p o) _ _ _ 11 [] (isolated-cut p o (c .args .v .0) (c .args .w .0) (sym (c .if-isolates .ensures tt)))
 
 pub returns : need.returns
 returns g c =

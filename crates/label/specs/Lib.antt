@@ -1,0 +1,5 @@
+pub mod Counts
+pub mod Eithers
+pub mod Laws
+pub mod Marks
+pub mod Sets

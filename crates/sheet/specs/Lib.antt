@@ -1,0 +1,4 @@
+pub mod Arguments
+pub mod Calls
+pub mod Fields
+pub mod Lines
