@@ -12,6 +12,8 @@ use lib.ListN.{length, getD, set}
 use lib.Seq.{getD-set-same, getD-set-other}
 use borrow.Author.Numbers.{trailing-lt}
 use Rattle.std.specs.declared.option.Option.the-variants.{Some, None}
+use Rattle.std.specs.shelf.Lists.{between}
+use Rattle.std.proofs.shelf.Edits.{getD-between}
 use Rattle.std.proofs.shelf.Lists.{getD-past}
 use Rattle.std.proofs.shelf.Bits.{one-shl, pow-below, shr-le}
 use Rattle.std.proofs.shelf.Tests.{cases-eq, cases-lt, ne-eqb, eq-eqb, lt-ltb, le-ltb, both-ways}
@@ -22,6 +24,10 @@ use Rattle.bitset.proofs.BitLaws.{bit-and, bit-or, bit-of-zero, bit-pow, bit-n
 pub holds-past : (ws : List ℕ) (i : ℕ) → length ws ≤ i / 64 → holds ws i ≡ false
 unfolding holds
 holds-past ws i h = ap (λ x. bit x (i % 64)) (getD-past ws (i / 64) 0 h) ∙ bit-of-zero (i % 64)
+
+pub zero-word : (ws : List ℕ) (i : ℕ) → getD ws (i / 64) 0 ≡ 0 → holds ws i ≡ false
+unfolding holds
+zero-word ws i e = ap (λ x. bit x (i % 64)) e ∙ bit-of-zero (i % 64)
 
 -- what is held lies within the words
 pub held-below : (ws : List ℕ) (i : ℕ) → holds ws i ≡ true → i < 64 * length ws
@@ -38,6 +44,14 @@ none-held ws from none few i h = go (cases-lt i (2 ^ 64))
     go : (i < 2 ^ 64) ⊎ (2 ^ 64 ≤ i) → holds ws i ≡ false
     go (inl l) = none i h l
     go (inr l) = holds-past ws i (omega arith)
+
+-- a part of the words, as a set
+pub holds-part : (ws : List ℕ) (from to i : ℕ) → from + i / 64 < to → holds (between from to ws) i ≡ holds ws (64 * from + i)
+unfolding holds
+holds-part ws from to i l =
+    let p : (64 * from + i) / 64 ≡ from + i / 64 = omega arith in
+    let q : (64 * from + i) % 64 ≡ i % 64 = omega arith in
+    ap (λ x. bit x (i % 64)) (getD-between ws from to (i / 64) 0 l) ∙ sym (rw (p, q) refl)
 
 -- ---- one bit read
 

@@ -1,0 +1,5 @@
+pub mod Blanks
+pub mod Cells
+pub mod Neighbours
+pub mod Pipes
+pub mod Steps
