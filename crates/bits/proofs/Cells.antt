@@ -2,15 +2,14 @@
 use mathlib.Core.Path.{_≡_, refl, sym, ap, ap₂, fun-ext, _∙_}
 use mathlib.Core.Bool.{Bool, true, false, not, _&&_, _||_}
 use mathlib.Core.List.{List, _++_}
-use mathlib.Core.Logic.{_⊎_, inl, inr}
-use Prim.Native.Nat.{ℕ, _+_, _-_, _*_, _/_, _%_, _≤_, _<_}
+use Prim.Native.Nat.{ℕ, _+_, _-_, _*_, _/_, _≤_, _<_}
 use native.Mathlib.Omega.{arith}
 use lib.Dec.{eqb, ltb, leb}
 use lib.ListN.{length, getD, drop, replicate, length-replicate}
 use Rattle.std.proofs.shelf.Lists.{getD-append-left, getD-append-right, getD-drop, getD-replicate}
-use Rattle.std.proofs.shelf.Tests.{cases-bool, cases-eq, and-parts, leb-true, le-leb, eqb-true, lt-ltb}
+use Rattle.std.proofs.shelf.Tests.{and-parts, leb-true, lt-ltb}
 use Rattle.std.proofs.shelf.Ways.{tells}
-use Rattle.plan.specs.Plans.{Plan, within}
+use Rattle.plan.specs.Plans.{within}
 use Rattle.plan.specs.Registers.{same-pair}
 use Rattle.bitset.specs.Bits.{holds, Inserted, Removed}
 use Rattle.bits.specs.Rows.{cell, joined, kept, Added, Taken}

@@ -1,6 +1,6 @@
 -- The next neighbour of v after w, read off row v.
 use mathlib.Core.Path.{_≡_, refl, sym, ap, _∙_}
-use mathlib.Core.Bool.{Bool, true, false, _&&_}
+use mathlib.Core.Bool.{true, false}
 use mathlib.Core.List.{List}
 use mathlib.Core.Logic.{_⊎_, inl, inr}
 use Prim.Native.Nat.{ℕ, _+_, _-_, _*_, _≤_, _<_}
@@ -8,7 +8,7 @@ use native.Mathlib.Omega.{arith}
 use lib.Dec.{leb}
 use Rattle.std.specs.declared.option.Option.the-variants.{Some, None}
 use Rattle.std.specs.shelf.Lists.{between}
-use Rattle.std.proofs.shelf.Tests.{cases-bool, and-from, le-leb, leb-true}
+use Rattle.std.proofs.shelf.Tests.{cases-bool, and-from, le-leb}
 use Rattle.plan.specs.Plans.{within, NextNeighbour}
 use Rattle.bitset.specs.Bits.{holds, NextHeld}
 use Rattle.bitset.proofs.Held.{holds-part}

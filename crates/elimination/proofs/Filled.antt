@@ -100,6 +100,17 @@ fill-lone g (u ∷ us) s v w lone =
     (new-lone g u v w (s .alike u v ∙ lone u))
     (fill-lone (eliminated g u) us (eliminated-simple g u s) v w (eliminated-lone g u s v lone))
 
+new-apart : (g : ℕ → ℕ → Bool) (u v : ℕ) → new g u v v ≡ false
+unfolding new
+new-apart g u v = grind (arith, tells)
+
+-- no junction makes a fill pair with itself
+pub fill-apart : (g : ℕ → ℕ → Bool) (us : List ℕ) (v : ℕ) → fill g us v v ≡ false
+unfolding fill
+fill-apart g [] v = refl
+fill-apart g (u ∷ us) v =
+    or-from (new g u v v) (fill (eliminated g u) us v v) (new-apart g u v) (fill-apart (eliminated g u) us v)
+
 -- a fill pair is no pipe
 pub fill-no-pipe : (g : ℕ → ℕ → Bool) (us : List ℕ) → Simple g → (v w : ℕ) → fill g us v w ≡ true → g v w ≡ false
 unfolding fill

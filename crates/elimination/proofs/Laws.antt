@@ -5,14 +5,15 @@ use mathlib.Core.List.{List, [], _∷_}
 use mathlib.Core.Logic.{_⊎_, inl, inr, _↔_}
 use Prim.Native.Nat.{ℕ, zero, suc, min, _+_, _≤_, _<_}
 use native.Mathlib.Omega.{arith}
-use Rattle.std.proofs.shelf.Tests.{cases-eq, cases-bool, both-ways}
-use Rattle.plan.specs.Plans.{Plan, Sound}
+use Rattle.std.proofs.shelf.Tests.{cases-eq, cases-lt, cases-bool, both-ways}
+use Rattle.plan.specs.Plans.{Plan, Sound, pairs}
 use Rattle.plan.specs.Orders.{ordered, place}
 use Rattle.plan.proofs.Orders.{IsOrder, order-of, place-apart}
-use Rattle.elimination.specs.Elimination.{fill, filled}
-use Rattle.elimination.specs.Laws.{Perfect, NoFillLaw, Route, PathLaw}
+use Rattle.elimination.specs.Elimination.{new, eliminated, fill, filled, cells}
+use Rattle.elimination.specs.Laws.{Perfect, NoFillLaw, Route, PathLaw, WorkedPlans}
 use Rattle.elimination.specs.Laws.Route.{pipe, via}
-use Rattle.elimination.proofs.Filled.{Simple, fill-no-pipe, filled-pipe, filled-fill, filled-cases, filled-closed, filled-least}
+use Rattle.elimination.proofs.Counting.{pairs-zero}
+use Rattle.elimination.proofs.Filled.{Simple, fill-alike, fill-apart, fill-lone, fill-no-pipe, filled-pipe, filled-fill, filled-cases, filled-closed, filled-least}
 
 pub plan-simple : (p : Plan) → Sound p → Simple (p .joins)
 plan-simple p s = record { apart = s .apart; alike = s .alike }
@@ -35,6 +36,36 @@ module _ (g : ℕ → ℕ → Bool) (us : List ℕ) (s : Simple g) where
           absurd
           (both-ways (g v w) (fill-no-pipe g us s v w t)
           (filled-least g us s (λ x y. g x y ≡ true) (λ x y h. h) perfect v w (filled-fill g s us v w t)))
+
+-- fill pairs are pairs of junctions
+pub fill-inside : (q : Plan) → Sound q → (us : List ℕ) (v w : ℕ) → fill (q .joins) us v w ≡ true → (1 ≤ v) × (v ≤ q .size)
+fill-inside q s us v w h = go (cases-bool (q .serves v))
+  where
+    unjoined : q .serves v ≡ false → (x : ℕ) → q .joins v x ≡ false
+    unjoined f x = elim (cases-bool (q .joins v x)) [ inl t ↦ absurd (both-ways (q .serves v) f (s .ends v x t .0)) | inr e ↦ e ]
+
+    go : (q .serves v ≡ true) ⊎ (q .serves v ≡ false) → (1 ≤ v) × (v ≤ q .size)
+    go (inl t) = s .inside v t
+    go (inr f) = absurd (both-ways (fill (q .joins) us v w) (fill-lone (q .joins) us (plan-simple q s) v w (unjoined f)) h)
+
+-- an order whose fill pairs number 0 has none
+pub no-fill-from-count : (q : Plan) → Sound q → (us : List ℕ) → pairs (fill (q .joins) us) (q .size) ≡ 0 → (v w : ℕ) → fill (q .joins) us v w ≡ false
+no-fill-from-count q s us h v w = go (cases-bool (fill (q .joins) us v w))
+  where
+    simple : Simple (q .joins)
+    simple = plan-simple q s
+
+    swap : fill (q .joins) us v w ≡ fill (q .joins) us w v
+    swap = fill-alike (q .joins) us simple v w
+
+    ordered : (t : fill (q .joins) us v w ≡ true) → (v < w) ⊎ (w ≤ v) → (w < v) ⊎ (v ≤ w) → fill (q .joins) us v w ≡ false
+    ordered t (inl l) k = pairs-zero (fill (q .joins) us) (q .size) h v w (fill-inside q s us v w t .0) l (fill-inside q s us w v (sym swap ∙ t) .1)
+    ordered t (inr l) (inl k) = swap ∙ pairs-zero (fill (q .joins) us) (q .size) h w v (fill-inside q s us w v (sym swap ∙ t) .0) k (fill-inside q s us v w t .1)
+    ordered t (inr l) (inr k) = let e : v ≡ w = omega arith in rw e (fill-apart (q .joins) us w)
+
+    go : (fill (q .joins) us v w ≡ true) ⊎ (fill (q .joins) us v w ≡ false) → fill (q .joins) us v w ≡ false
+    go (inr f) = f
+    go (inl t) = ordered t (cases-lt v w) (cases-lt w v)
 
 pub no-fill-law : NoFillLaw
 no-fill-law p s us =
@@ -117,3 +148,17 @@ path-law p s us o v w ne = (
       (λ x y h. s .inside y (s .ends x y h .1))
       v w ne,
 )
+
+pub worked-plans : WorkedPlans
+unfolding new eliminated fill cells
+worked-plans =
+    record {
+      ring-of-four-from-3 = refl;
+      ring-of-four-from-4 = refl;
+      ring-of-five-from-4 = refl;
+      path-from-middle = refl;
+      one-junction = refl;
+      one-junction-cells = refl;
+      ring-of-five-cells = refl;
+      not-an-order = refl;
+    }

@@ -1,2 +1,9 @@
+pub mod Counting
 pub mod Filled
+pub mod Filling
 pub mod Laws
+pub mod Marked
+pub mod Neighbours
+pub mod Parents
+pub mod Placing
+pub mod Takeover

@@ -1,5 +1,5 @@
 -- The states of the junctions: entry v - 1 of the table is that of junction v.
-use mathlib.Core.Bool.{Bool, true, false, _&&_}
+use mathlib.Core.Bool.{Bool, true, false, not, _||_}
 use mathlib.Core.List.{List}
 use Prim.Native.Nat.{ℕ, _-_}
 use lib.ListN.{getD}
@@ -11,6 +11,6 @@ abbrev pub is-open : State → Bool
 is-open Open = true
 is-open Shut = false
 
--- junction v is open; a number from outside 1 to 512 is not
+-- junction v is open; a number from outside 1 to 512 is never shut
 abbrev pub opens : List State → ℕ → Bool
-opens table v = within 512 v && is-open (getD table (v - 1) Open)
+opens table v = not (within 512 v) || is-open (getD table (v - 1) Open)

@@ -2,8 +2,8 @@
 ghost use mathlib.Core.Path.{_≡_};
 ghost use mathlib.Core.Bool.{true, false};
 ghost use Prim.Native.Nat.{ℕ, _≤_};
-ghost use Rattle.plan.specs.Plans.{within};
 ghost use Rattle.plan.specs.Refusals.{heard, after};
+ghost use Rattle.plan.specs.Registers.{Joins, Cuts, with-pipe, without-pipe};
 ghost use Rattle.isolation.specs.Layers.{through, marked, shut-verdict, open-verdict, isolates-pair};
 ghost use Rattle.isolation.specs.States.{opens};
 use crate::state::State;
@@ -26,7 +26,7 @@ impl<R: Register> Isolation<R> {
     /// The layer over a register, with every junction open.
     pub fn new(below: R) -> Isolation<R>
         ensures register { λ r. ⌜ r .below ≡ below ⌝ }
-        ensures states { λ r. ⌜ ((v : ℕ) → opens (r .states .table) v ≡ within 512 v) ⌝ }
+        ensures states { λ r. ⌜ ((v : ℕ) → opens (r .states .table) v ≡ true) ⌝ }
     {
         Isolation {
             below,
@@ -34,7 +34,7 @@ impl<R: Register> Isolation<R> {
         }
     }
 
-    /// Whether v is open here, whatever its service below; false for a number that is no junction.
+    /// Whether v is open here, whatever its service below; a number that is no junction is never shut.
     pub fn is_open(&self, v: Junction) -> bool
         ensures { λ r. ⌜ r ≡ opens (now (self .entry) .states .table) (v .0) ⌝ }
     {
@@ -123,14 +123,22 @@ pub impl<R: Register> Register for Isolation<R> as IsolationRegister {
         self.below.spare()
     }
 
-    fn join(&mut self, v: Junction, w: Junction) -> Result<(), Refusal> {
+    fn join(&mut self, v: Junction, w: Junction) -> Result<(), Refusal>
+        ensures joins { λ r. ⌜ Joins (through (R·ReadablePlan .meaning (now (self .entry) .below)) (opens (now (self .entry) .states .table))) (R·Register .left (now (self .entry) .below)) (v .0) (w .0) (heard r) (through (R·ReadablePlan .meaning (now (self .exit) .below)) (opens (now (self .exit) .states .table))) (R·Register .left (now (self .exit) .below)) ⌝ }
+        ensures below { λ r. ⌜ R·ReadablePlan .meaning (now (self .exit) .below) ≡ after (heard r) (with-pipe (R·ReadablePlan .meaning (now (self .entry) .below)) (v .0) (w .0)) (R·ReadablePlan .meaning (now (self .entry) .below)) ⌝ }
+        ensures states { λ _. ⌜ now (self .exit) .states ≡ now (self .entry) .states ⌝ }
+    {
         if self.isolates(v, w) {
             return Err(Refusal::OutOfService);
         }
         self.below.join(v, w)
     }
 
-    fn cut(&mut self, v: Junction, w: Junction) -> Result<(), Refusal> {
+    fn cut(&mut self, v: Junction, w: Junction) -> Result<(), Refusal>
+        ensures cuts { λ r. ⌜ Cuts (through (R·ReadablePlan .meaning (now (self .entry) .below)) (opens (now (self .entry) .states .table))) (R·Register .left (now (self .entry) .below)) (v .0) (w .0) (heard r) (through (R·ReadablePlan .meaning (now (self .exit) .below)) (opens (now (self .exit) .states .table))) (R·Register .left (now (self .exit) .below)) ⌝ }
+        ensures below { λ r. ⌜ R·ReadablePlan .meaning (now (self .exit) .below) ≡ after (heard r) (without-pipe (R·ReadablePlan .meaning (now (self .entry) .below)) (v .0) (w .0)) (R·ReadablePlan .meaning (now (self .entry) .below)) ⌝ }
+        ensures states { λ _. ⌜ now (self .exit) .states ≡ now (self .entry) .states ⌝ }
+    {
         if self.isolates(v, w) {
             return Err(Refusal::OutOfService);
         }

@@ -1,6 +1,6 @@
 //! The table of states, one for each junction that a plan may have.
 ghost use mathlib.Core.Path.{_≡_};
-ghost use mathlib.Core.Bool.{cond};
+ghost use mathlib.Core.Bool.{true, cond};
 ghost use Prim.Native.Nat.{ℕ};
 ghost use Rattle.plan.specs.Plans.{within};
 ghost use Rattle.isolation.specs.Layers.{marked};
@@ -23,19 +23,19 @@ pub struct States {
 impl States {
     /// Every junction open.
     pub fn new() -> States
-        ensures { λ r. ⌜ ((v : ℕ) → opens (r .table) v ≡ within 512 v) ⌝ }
+        ensures { λ r. ⌜ ((v : ℕ) → opens (r .table) v ≡ true) ⌝ }
     {
         States {
             table: [State::Open; 512],
         }
     }
 
-    /// Whether junction v is open; a number that is no junction is not.
+    /// Whether junction v is open; a number that is no junction is never shut.
     pub fn is_open(&self, v: Junction) -> bool
         ensures { λ r. ⌜ r ≡ opens (now (self .entry) .table) (v .0) ⌝ }
     {
         if v.0 < 1 || v.0 > 512 {
-            return false;
+            return true;
         }
         match self.table[v.0 as usize - 1] {
             State::Open => true,

@@ -11,7 +11,7 @@ use Rattle.std.specs.declared.cmp.Ordering.the-variants.{Less}
 use Rattle.label.specs.declared.counting.Count.{Count}
 use Rattle.label.specs.Marks.{has, is-mark}
 use Rattle.label.specs.Laws.{Laws}
-use Rattle.label.specs.Counts.{by-number, counted, count-stands}
+use Rattle.label.specs.Counts.{by-number, no-count, counted, compared-counts, count-stands}
 use Rattle.label.proofs.Fallen.{falls-length, falls-push, fewer-length}
 
 count-raises : (a : Count) (s : List ℕ) (m : ℕ) → is-mark m ≡ true → count-stands a s → ((x : ℕ) → has s x ≡ true → m < x) → count-stands (counted a m) (s ++ m ∷ [])
@@ -25,7 +25,7 @@ count-raises a s m k h above =
 by-number-less : (a b : ℕ) → a < b → by-number a b ≡ Less
 by-number-less a b l = grind (arith, tells)
 
-pub counting-lawful : Laws {L = Count} (record { 0 = 0 }) counted (λ a b. by-number (a .0) (b .0)) count-stands
+pub counting-lawful : Laws no-count counted compared-counts count-stands
 counting-lawful = record {
   empty = (refl, refl);
   raises = count-raises;

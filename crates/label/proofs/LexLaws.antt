@@ -21,7 +21,7 @@ use Rattle.bitset.proofs.Held.{insert-word}
 use Rattle.label.specs.declared.lexicographic.MarkSet.{MarkSet}
 use Rattle.label.specs.Laws.{Laws}
 use Rattle.label.specs.Marks.{has, is-mark}
-use Rattle.label.specs.Sets.{marked, no-marks, with-bit, with-mark, by-words, SetStands}
+use Rattle.label.specs.Sets.{marked, no-marks, with-bit, with-mark, by-words, compared-sets, SetStands}
 use Rattle.label.proofs.Fallen.{falls-push, has-push}
 use Rattle.label.proofs.Highest.{RankedSets, ranked-words}
 use Rattle.label.proofs.Rankings.{Ranking, chain, level-ranking, number-ranking, then-ranking}
@@ -119,9 +119,9 @@ fewer-less a b s t m h k sub p q =
         let off-t : has t (r .0) ≡ false = sym (k .marks (r .0)) ∙ r .2 in
         absurd (both-ways (has t (r .0)) off-t (sub (r .0) in-s))
 
-pub lexicographic-lawful : Laws no-marks with-mark (λ a b. by-words 8 (a .words) (b .words)) SetStands
+pub lexicographic-lawful : Laws no-marks with-mark compared-sets SetStands
 lexicographic-lawful =
-    let c : MarkSet → MarkSet → Ordering = λ a b. by-words 8 (a .words) (b .words) in
+    let c : MarkSet → MarkSet → Ordering = compared-sets in
     let r : Ranking c = words-ranking 8 in
     record {
       empty = none-stand;

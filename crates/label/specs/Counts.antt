@@ -10,8 +10,15 @@ use Rattle.std.specs.declared.cmp.Ordering.the-variants.{Less, Equal, Greater}
 use Rattle.label.specs.declared.counting.Count.{Count}
 use Rattle.label.specs.Marks.{is-mark, falling}
 
+-- how two numbers compare
 abbrev pub by-number : ℕ → ℕ → Ordering
 by-number a b = cond (ltb a b) Less (cond (eqb a b) Equal Greater)
+
+abbrev pub no-count : Count
+no-count = record { 0 = 0 }
+
+abbrev pub compared-counts : Count → Count → Ordering
+compared-counts a b = by-number (a .0) (b .0)
 
 -- one more, for a mark, as long as the count is below 512
 abbrev pub counted : Count → ℕ → Count

@@ -37,6 +37,10 @@ abbrev pub by-words : ℕ → List ℕ → List ℕ → Ordering
 by-words zero v w = Equal
 by-words (suc n) v w = thenBy (by-number (getD v n 0) (getD w n 0)) (by-words n v w)
 
+-- how two sets of 8 words compare
+abbrev pub compared-sets : MarkSet → MarkSet → Ordering
+compared-sets a b = by-words 8 (a .words) (b .words)
+
 -- a set of 8 words stands for the falling list of its marks
 pub record SetStands (a : MarkSet) (s : List ℕ) : Type 0 where
   pub eight : length (a .words) ≡ 8

@@ -1,5 +1,5 @@
 //! Labels that count: the search by them is maximum cardinality search.
-ghost use Rattle.label.specs.Counts.{counted, by-number, count-stands};
+ghost use Rattle.label.specs.Counts.{no-count, counted, compared-counts, count-stands};
 use crate::kind::Kind;
 use plan::Place;
 use std::cmp::Ordering;
@@ -15,11 +15,11 @@ pub struct Count(pub u16);
 pub impl Kind for Counting as CountingKind {
     type Label = Count;
 
-    ghost blank = { λ _. record { 0 = 0 } };
+    ghost blank = { λ _. no-count };
 
     ghost raised = { λ _ a m. counted a m };
 
-    ghost compared = { λ _ a b. by-number (a .0) (b .0) };
+    ghost compared = { λ _ a b. compared-counts a b };
 
     ghost stands = { λ _ a s. count-stands a s };
 

@@ -7,14 +7,18 @@ use std::cmp::Ordering;
 /// One of two kinds: the labels of the kind that is not chosen stand for nothing.
 #[derive(Clone, Copy)]
 pub enum Either<A, B> {
+    /// The first kind is chosen.
     First(A),
+    /// The second kind is chosen.
     Second(B),
 }
 
 /// A label of one of two kinds.
 #[derive(Clone, Copy)]
 pub enum EitherLabel<X, Y> {
+    /// A label of the first kind.
     First(X),
+    /// A label of the second kind.
     Second(Y),
 }
 

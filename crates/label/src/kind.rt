@@ -11,6 +11,7 @@ use std::cmp::Ordering;
 /// down; a mark is a number from 1 to 512. `stands` says for which falling lists of marks a label
 /// stands, and `lawful` what the search relies on.
 pub trait Kind {
+    /// The labels of the kind.
     type Label: Copy;
 
     ghost blank: { Self → Self·Label };

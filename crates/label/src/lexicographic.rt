@@ -1,11 +1,11 @@
-//! Labels that keep every mark: the search by them is LEX-P, lexicographic breadth-first search.
+//! Labels that keep every mark: the search by them is lexicographic breadth-first search.
 ghost use mathlib.Core.Path.{_≡_};
 ghost use mathlib.Core.Bool.{_&&_, _||_};
-ghost use lib.Dec.{eqb};
-ghost use Rattle.label.specs.Marks.{is-mark};
 ghost use Prim.Native.Nat.{ℕ};
+ghost use lib.Dec.{eqb};
 ghost use Rattle.std.specs.Orderings.{Ranked};
-ghost use Rattle.label.specs.Sets.{no-marks, with-mark, marked, by-words, Exceeds, SetStands};
+ghost use Rattle.label.specs.Marks.{is-mark};
+ghost use Rattle.label.specs.Sets.{no-marks, with-mark, marked, compared-sets, Exceeds, SetStands};
 use crate::kind::Kind;
 use plan::Place;
 use std::cmp::Ordering;
@@ -25,7 +25,7 @@ impl MarkSet {
     /// How the set ranks against another: of two the greater has the highest mark in which they
     /// differ.
     pub fn compare(&self, other: &MarkSet) -> Ordering
-        ensures value { λ r. ⌜ r ≡ by-words 8 (now (self .entry) .words) (now (other .entry) .words) ⌝ }
+        ensures value { λ r. ⌜ r ≡ compared-sets (now (self .entry)) (now (other .entry)) ⌝ }
         ensures greater { λ r. ⌜ Ranked r (Exceeds (marked (now (other .entry))) (marked (now (self .entry)))) ((m : ℕ) → marked (now (self .entry)) m ≡ marked (now (other .entry)) m) (Exceeds (marked (now (self .entry))) (marked (now (other .entry)))) ⌝ }
     {
         for k in (0..8).rev() {
@@ -49,7 +49,7 @@ pub impl Kind for Lexicographic as LexicographicKind {
 
     ghost raised = { λ _ a m. with-mark a m };
 
-    ghost compared = { λ _ a b. by-words 8 (a .words) (b .words) };
+    ghost compared = { λ _ a b. compared-sets a b };
 
     ghost stands = { λ _ a s. SetStands a s };
 

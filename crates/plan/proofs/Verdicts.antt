@@ -1,5 +1,5 @@
 -- What a verdict tells of the checks that made it.
-use mathlib.Core.Path.{_≡_, refl, sym, ap}
+use mathlib.Core.Path.{_≡_, refl, sym, ap, _∙_}
 use mathlib.Core.Bool.{Bool, true, false, not, cond}
 use mathlib.Core.List.{List, [], _∷_}
 use Prim.Native.Nat.{ℕ, _+_, _-_}
@@ -65,3 +65,10 @@ module _ (p : Plan) (v w : ℕ) where
     plan = ap (λ x. after x (without-pipe p v w) p) (sym e);
     spare = ap (λ x. after x (s + 1) s) (sym e);
   }
+
+  -- the plan after a call, by what the caller heard
+  pub joined-plan : {s s′ : ℕ} {a : Verdict} {p′ : Plan} → Joins p s v w a p′ s′ → p′ ≡ after a (with-pipe p v w) p
+  joined-plan j = j .plan ∙ ap (λ x. after x (with-pipe p v w) p) (sym (j .says))
+
+  pub cut-plan : {s s′ : ℕ} {a : Verdict} {p′ : Plan} → Cuts p s v w a p′ s′ → p′ ≡ after a (without-pipe p v w) p
+  cut-plan j = j .plan ∙ ap (λ x. after x (without-pipe p v w) p) (sym (j .says))

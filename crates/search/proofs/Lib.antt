@@ -1,6 +1,10 @@
+pub mod Computed
 pub mod Filling
 pub mod Going
 pub mod Marking
 pub mod Raising
 pub mod Ranks
+pub mod Standing
 pub mod Stepping
+pub mod Tails
+pub mod Unique

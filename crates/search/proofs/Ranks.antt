@@ -1,5 +1,5 @@
 -- Outranking is transitive and, of two different junctions, one outranks the other.
-use mathlib.Core.Path.{_≡_, refl, ap, _∙_}
+use mathlib.Core.Path.{_≡_, refl, sym, ap, _∙_}
 use mathlib.Core.Bool.{true, false}
 use mathlib.Core.List.{List}
 use mathlib.Core.Logic.{_⊎_, inl, inr}
@@ -37,16 +37,16 @@ module _ {L : Type 0} (blank : L) (raised : L → ℕ → L) (compared : L → L
 
   -- the best of the indices below i, and then of those up to i; index k has junction at k with label tag k
   module _ (at : ℕ → ℕ) (tag : ℕ → L) (best i : ℕ) (low : best < i) (inv : (k : ℕ) → k < i → (k ≡ best → ⊥) → outranks (compared (tag k) (tag best)) (at best) (at k) ≡ true) where
-    pub better : (b : ℕ) → b ≡ i → outranks (compared (tag best) (tag i)) (at i) (at best) ≡ true → (k : ℕ) → k < i + 1 → (k ≡ b → ⊥) → outranks (compared (tag k) (tag b)) (at b) (at k) ≡ true
+    pub better : (b : ℕ) → b ≡ i → true ≡ outranks (compared (tag best) (tag i)) (at i) (at best) → (k : ℕ) → k < i + 1 → (k ≡ b → ⊥) → outranks (compared (tag k) (tag b)) (at b) (at k) ≡ true
     better b is h k l ne = rw is (go (cases-eq k best))
       where
         go : (k ≡ best) ⊎ (k ≡ best → ⊥) → outranks (compared (tag k) (tag i)) (at i) (at k) ≡ true
-        go (inl e) = rw e h
-        go (inr other) = outranks-chain (at i) (at best) (at k) (tag i) (tag best) (tag k) h (inv k (omega arith) other)
+        go (inl e) = rw e (sym h)
+        go (inr other) = outranks-chain (at i) (at best) (at k) (tag i) (tag best) (tag k) (sym h) (inv k (omega arith) other)
 
-    pub no-better : (b : ℕ) → b ≡ best → (at i ≡ at best → ⊥) → outranks (compared (tag best) (tag i)) (at i) (at best) ≡ false → (k : ℕ) → k < i + 1 → (k ≡ b → ⊥) → outranks (compared (tag k) (tag b)) (at b) (at k) ≡ true
+    pub no-better : (b : ℕ) → b ≡ best → (at i ≡ at best → ⊥) → false ≡ outranks (compared (tag best) (tag i)) (at i) (at best) → (k : ℕ) → k < i + 1 → (k ≡ b → ⊥) → outranks (compared (tag k) (tag b)) (at b) (at k) ≡ true
     no-better b is apart h k l ne = rw is (go (cases-eq k i))
       where
         go : (k ≡ i) ⊎ (k ≡ i → ⊥) → outranks (compared (tag k) (tag best)) (at best) (at k) ≡ true
-        go (inl e) = rw e (outranked (at i) (at best) (tag i) (tag best) apart h)
+        go (inl e) = rw e (outranked (at i) (at best) (tag i) (tag best) apart (sym h))
         go (inr other) = inv k (omega arith) (omega arith)

@@ -10,16 +10,18 @@ use lib.Dec.{ltb}
 use lib.ListN.{length, getD, set, drop}
 use lib.Seq.{getD-set-same, getD-set-other}
 use Rattle.std.proofs.shelf.Edits.{Swapped, swapped-from-exchanged, length-exchanged}
-use Rattle.std.proofs.shelf.Lists.{length-set, length-drop, getD-drop, ext-getD}
+use Rattle.std.proofs.shelf.Lists.{length-set}
 use Rattle.std.proofs.shelf.Tests.{cases-eq, cases-lt, lt-ltb}
 use Rattle.std.specs.declared.cmp.Ordering.{Ordering}
 use Rattle.std.specs.Holes.{exchanged}
 use Rattle.plan.specs.declared.number.Junction.{Junction}
 use Rattle.plan.specs.Plans.{Plan}
-use Rattle.search.specs.Rule.{label, outranks, KeptFrom}
+use Rattle.search.specs.Memory.{KeptFrom}
+use Rattle.search.specs.Rule.{label, outranks}
 use Rattle.search.specs.Working.{at, Chosen, RaisedBy}
 use Rattle.search.proofs.Going.{Going, listed, listed-at, length-listed}
 use Rattle.search.proofs.Marking.{label-same, label-step}
+use Rattle.search.proofs.Tails.{same-drop}
 
 -- where the junction at index i of the new order came from, when b and q were exchanged, b ≤ q
 pub record Came (at at′ : ℕ → ℕ) (b q i : ℕ) : Type 0 where
@@ -82,9 +84,6 @@ module _ {L : Type 0} (blank : L) (raised : L → ℕ → L) (compared : L → L
   back′ : (i : ℕ) → i < p .size → getD scratch′ (at places′ i - 1) 0 ≡ i + 1
   back′ i h = rw noted (go (cases-eq i q) (cases-eq i b))
     where
-      once : List ℕ
-      once = set scratch (at places q - 1) (b + 1)
-
       bq : b < p .size
       bq = omega (arith, chosen .upto, inside)
 
@@ -104,7 +103,7 @@ module _ {L : Type 0} (blank : L) (raised : L → ℕ → L) (compared : L → L
 
   -- the places above q are as they were
   rest : (m : ℕ) → q < m → drop m (listed (p .size) places′) ≡ drop m (listed (p .size) places)
-  rest m l = ext-getD 0 (drop m (listed (p .size) places′)) (drop m (listed (p .size) places)) long entry
+  rest m l = same-drop m (listed (p .size) places′) (listed (p .size) places) (here ∙ sym there) entry
     where
       here : length (listed (p .size) places′) ≡ p .size
       here = length-listed (p .size) places′ room′
@@ -112,14 +111,10 @@ module _ {L : Type 0} (blank : L) (raised : L → ℕ → L) (compared : L → L
       there : length (listed (p .size) places) ≡ p .size
       there = length-listed (p .size) places (g .room)
 
-      long : length (drop m (listed (p .size) places′)) ≡ length (drop m (listed (p .size) places))
-      long = length-drop m (listed (p .size) places′) ∙ (ap (λ k. k - m) (here ∙ sym there) ∙ sym (length-drop m (listed (p .size) places)))
-
-      entry : (i : ℕ) → i < length (drop m (listed (p .size) places′)) → getD (drop m (listed (p .size) places′)) i 0 ≡ getD (drop m (listed (p .size) places)) i 0
-      entry i h =
-          let k : m + i < p .size = omega (arith, length-drop m (listed (p .size) places′), here) in
-          let c : at places′ (m + i) ≡ at places (m + i) = from (m + i) .same ∙ ap (at places) (from (m + i) .high (omega arith)) in
-          getD-drop m (listed (p .size) places′) i 0 ∙ (listed-at (p .size) places′ (m + i) k ∙ (c ∙ (sym (listed-at (p .size) places (m + i) k) ∙ sym (getD-drop m (listed (p .size) places) i 0))))
+      entry : (i : ℕ) → m ≤ i → i < length (listed (p .size) places′) → getD (listed (p .size) places′) i 0 ≡ getD (listed (p .size) places) i 0
+      entry i h k =
+          let n : i < p .size = omega (arith, here) in
+          listed-at (p .size) places′ i n ∙ (from i .same ∙ (ap (at places) (from i .high (omega arith)) ∙ sym (listed-at (p .size) places i n)))
 
   tag : ℕ → ℕ → L
   tag m v = label blank raised (p .joins) (listed (p .size) places) m v
@@ -140,13 +135,11 @@ module _ {L : Type 0} (blank : L) (raised : L → ℕ → L) (compared : L → L
   labelled′ : (i : ℕ) (d : L) → i < q → getD labels′ (at places′ i - 1) d ≡ tag′ q (at places′ i)
   unfolding tag′
   labelled′ i d h =
-      let v : ℕ = at places′ i in
       let range : (1 ≤ at places′ i) × (at places′ i ≤ p .size) = each′ i (omega (arith, inside)) in
       let less : ltb (getD scratch′ (at places′ i - 1) 0) (q + 1) ≡ true = lt-ltb (getD scratch′ (at places′ i - 1) 0) (q + 1) (omega (arith, back′ i (omega (arith, inside)))) in
       let was : getD labels (at places′ i - 1) d ≡ tag′ (suc q) (at places′ i) = kept-tag i d (omega arith) in
       let now : getD labels′ (at places′ i - 1) d ≡ cond (p .joins (at places′ q) (at places′ i) && ltb (getD scratch′ (at places′ i - 1) 0) (q + 1)) (raised (getD labels (at places′ i - 1) d) (q + 1)) (getD labels (at places′ i - 1) d) = rise .within (at places′ i) d (range .0) (range .1) in
       let step : tag′ q (at places′ i) ≡ cond (p .joins (at places′ q) (at places′ i)) (raised (tag′ (suc q) (at places′ i)) (suc q)) (tag′ (suc q) (at places′ i)) = label-step blank raised (p .joins) (listed (p .size) places′) q (at places′ q) (at places′ i) (omega (arith, length-listed (p .size) places′ room′, inside)) (listed-at (p .size) places′ q inside) in
-      let one : q + 1 ≡ suc q = add-one q in
       now ∙ (turn (p .joins (at places′ q) (at places′ i)) (ltb (getD scratch′ (at places′ i - 1) 0) (q + 1)) less (getD labels (at places′ i - 1) d) (tag′ (suc q) (at places′ i)) was ∙ sym step)
     where
       turn : (x y : Bool) → y ≡ true → (a c : L) → a ≡ c → cond (x && y) (raised a (q + 1)) a ≡ cond x (raised c (suc q)) c

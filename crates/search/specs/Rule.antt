@@ -1,17 +1,15 @@
 -- The rule by which a search orders the junctions of a plan: places are given from the last down, each to a junction whose label is greatest.
 use mathlib.Core.Path.{_≡_}
-use mathlib.Core.Bool.{Bool, true, false, cond, _||_}
+use mathlib.Core.Bool.{Bool, true, false, cond}
 use mathlib.Core.List.{List, [], _∷_, _++_}
-use Prim.Native.Nat.{ℕ, suc, _*_, _≤_, _<_}
+use Prim.Native.Nat.{ℕ, suc, _<_}
 use lib.Dec.{ltb}
-use lib.ListN.{length, getD, take, drop}
+use lib.ListN.{getD, drop}
 use Rattle.std.specs.Iters.{folded}
 use Rattle.std.specs.declared.cmp.Ordering.{Ordering}
 use Rattle.std.specs.declared.cmp.Ordering.the-variants.{Less, Equal, Greater}
-use Rattle.plan.specs.declared.number.Junction.{Junction}
-use Rattle.plan.specs.Orders.{numbers, ordered}
+use Rattle.plan.specs.Orders.{ordered}
 use Rattle.plan.specs.Plans.{Plan}
-use Rattle.plan.specs.Refusals.{Verdict, carried, refused}
 
 -- the places, falling, of the junctions of a list that are joined to v; the first of the list has place q
 abbrev pub marks : (ℕ → ℕ → Bool) → ℕ → ℕ → List ℕ → List ℕ
@@ -32,16 +30,3 @@ outranks Greater u v = false
 pub record Searched {L : Type 0} (blank : L) (raised : L → ℕ → L) (compared : L → L → Ordering) (p : Plan) (us : List ℕ) : Type 0 where
   pub order : ordered (p .size) us ≡ true
   pub greatest : (k i : ℕ) → i < k → k < p .size → outranks (compared (label blank raised (p .joins) us (suc k) (getD us i 0)) (label blank raised (p .joins) us (suc k) (getD us k 0))) (getD us k 0) (getD us i 0) ≡ true
-
--- the entries from index n on are as before
-abbrev pub KeptFrom : {A : Type 0} → ℕ → List A → List A → Type 0
-KeptFrom {A} n before after = (k : ℕ) (d : A) → n ≤ k → getD after k d ≡ getD before k d
-
--- memory is short: fewer than n places, n labels or 2 n entries of scratch
-abbrev pub short : {L : Type 0} → ℕ → List Junction → List L → List ℕ → Bool
-short n places labels scratch = ltb (length places) n || ltb (length labels) n || ltb (length scratch) (2 * n)
-
--- what a search leaves in the memory that it was handed
-abbrev pub Leaves : {L : Type 0} → L → (L → ℕ → L) → (L → L → Ordering) → Plan → List Junction → List L → List ℕ → Verdict → List Junction → List L → List ℕ → Type 0
-Leaves blank raised compared p places labels scratch carried places′ labels′ scratch′ = Searched blank raised compared p (take (p .size) (numbers places′)) × KeptFrom (p .size) places places′ × KeptFrom (p .size) labels labels′ × KeptFrom (2 * p .size) scratch scratch′
-Leaves blank raised compared p places labels scratch (refused k vs) places′ labels′ scratch′ = (places′ ≡ places) × (labels′ ≡ labels) × (scratch′ ≡ scratch)

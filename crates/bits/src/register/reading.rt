@@ -37,9 +37,14 @@ pub impl ReadablePlan for BitRegister as BitReadablePlan {
             return None;
         }
         let row = 8 * (v.0 as usize - 1);
-        match bitset::next(&self.words[row..row + 8], w.0 as usize) {
-            Some(i) if i < self.n as usize => Some(Junction(i as u16 + 1)),
-            _ => None,
+        let Some(i) = bitset::next(&self.words[row..row + 8], w.0 as usize) else {
+            return None;
+        };
+        // A row has bits for 512 junctions, and those past n stand for none.
+        if i < self.n as usize {
+            Some(Junction(i as u16 + 1))
+        } else {
+            None
         }
     }
 }

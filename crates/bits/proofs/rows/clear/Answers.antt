@@ -1,6 +1,5 @@
 use native.Mathlib.Omega.{arith}
 use mathlib.Core.Path.{_≡_}
-use mathlib.Core.List.{_++_}
 use Prim.Native.Nat.{_-_, _*_}
 use lib.ListN.{length, take, length-take}
 use borrow.Rule.Slice.PartMut.{postOf}

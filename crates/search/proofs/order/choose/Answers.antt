@@ -20,6 +20,6 @@ loop-i-again g c =
     let low : c .loop-i .best < c .loop-i .i = c .loop-i .inv .0 in
     let apart : here (c .loop-i .i) ≡ here (c .loop-i .best) → ⊥ = λ e. c .pre .apart (c .loop-i .best) (c .loop-i .i) low (omega arith) (sym e) in
     elim (c .if-is-before .came) [
-      | then-is-before w ↦ (omega (arith, w .best-is), λ i d l ne. better (g .K·Kind .blank k) (g .K·Kind .raised k) (g .K·Kind .compared k) (g .K·Kind .stands k) law here (tag d) (c .loop-i .best) (c .loop-i .i) low (λ j. c .loop-i .inv .1 j d) (c .if-is-before .best) (w .best-is) (sym (w .if-is-before .ensures tt d)) i l ne)
-      | else-is-before w ↦ (omega (arith, w .best-is), λ i d l ne. no-better (g .K·Kind .blank k) (g .K·Kind .raised k) (g .K·Kind .compared k) (g .K·Kind .stands k) law here (tag d) (c .loop-i .best) (c .loop-i .i) low (λ j. c .loop-i .inv .1 j d) (c .if-is-before .best) (w .best-is) apart (sym (w .if-is-before .ensures tt d)) i l ne)
+      | then-is-before w ↦ (omega (arith, w .best-is), λ i d l ne. better (g .K·Kind .blank k) (g .K·Kind .raised k) (g .K·Kind .compared k) (g .K·Kind .stands k) law here (tag d) (c .loop-i .best) (c .loop-i .i) low (λ j. c .loop-i .inv .1 j d) (c .if-is-before .best) (w .best-is) (w .if-is-before .ensures tt d) i l ne)
+      | else-is-before w ↦ (omega (arith, w .best-is), λ i d l ne. no-better (g .K·Kind .blank k) (g .K·Kind .raised k) (g .K·Kind .compared k) (g .K·Kind .stands k) law here (tag d) (c .loop-i .best) (c .loop-i .i) low (λ j. c .loop-i .inv .1 j d) (c .if-is-before .best) (w .best-is) apart (w .if-is-before .ensures tt d) i l ne)
     ]

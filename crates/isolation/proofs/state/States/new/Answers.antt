@@ -1,5 +1,5 @@
 use mathlib.Core.Path.{ap, _∙_}
-use mathlib.Core.Bool.{_&&_, and-true}
+use mathlib.Core.Bool.{not, _||_, or-true}
 use Prim.Native.Nat.{_-_}
 use Rattle.plan.specs.Plans.{within}
 use Rattle.isolation.specs.States.{is-open}
@@ -7,4 +7,4 @@ use Rattle.isolation.proofs.Tables.{replicate-open}
 use Rattle.isolation.proofs.state.States.new.Needs as need
 
 pub returns : need.returns
-returns c v = ap (λ s. within 512 v && is-open s) (replicate-open 512 (v - 1)) ∙ and-true (within 512 v)
+returns c v = ap (λ s. not (within 512 v) || is-open s) (replicate-open 512 (v - 1)) ∙ or-true (not (within 512 v))

@@ -1,34 +1,16 @@
-use mathlib.Core.Path.{_≡_, sym}
-use mathlib.Core.Bool.{not, _&&_}
-use Prim.Native.Nat.{ℕ}
+use mathlib.Core.Path.{sym}
+use Prim.Native.Nat.{_+_}
 use Rattle.std.specs.Changed.{refilled}
 use Rattle.std.specs.Of.Vec.{vec-items}
-use Rattle.plan.specs.Registers.{same-pair}
-use Rattle.bits.specs.Rows.{joined}
-use Rattle.bits.proofs.Pipes.{taken-alike, taken-apart}
-use Rattle.bits.proofs.Steps.{lent-taken, counted-taken, cut-made}
+use Rattle.bits.proofs.Steps.{Tallied, cut-tallied, cut-done}
 use Rattle.bits.proofs.register.changing.BitRegisterRegister.cut.Needs as need
 
 pub ghost-self : need.ghost-self
 ghost-self c =
-    let change : (a b : ℕ) → joined (c .args .self .now .n) (vec-items (refilled (c .args .self .now .words) (c .take-pipe .last .words))) a b ≡ (not (same-pair (c .args .v .0) (c .args .w .0) a b) && joined (c .args .self .now .n) (vec-items (c .args .self .now .words)) a b) = lent-taken (c .args .self .now .words) (c .deref-mut .result .now) (c .take-pipe .last .words) (c .args .self .now .n) (c .args .v .0) (c .args .w .0) (c .deref-mut .ensures .value) (c .take-pipe .kept .words) (c .args .self .now .few) (sym (c .if-not-has .ensures tt)) (sym (c .if-not-has-2 .ensures tt)) (c .take-pipe .ensures) in (
-      c .args .self .now .some,
-      (
-        c .args .self .now .few,
-        (
-          c .args .self .now .room,
-          (
-            taken-alike (joined (c .args .self .now .n) (vec-items (c .args .self .now .words))) (joined (c .args .self .now .n) (vec-items (refilled (c .args .self .now .words) (c .take-pipe .last .words)))) (c .args .v .0) (c .args .w .0) (c .if-v-w .left) (c .args .self .now .alike) (c .args .self .now .apart) change,
-            (
-              taken-apart (joined (c .args .self .now .n) (vec-items (c .args .self .now .words))) (joined (c .args .self .now .n) (vec-items (refilled (c .args .self .now .words) (c .take-pipe .last .words)))) (c .args .v .0) (c .args .w .0) (c .if-v-w .left) (c .args .self .now .alike) (c .args .self .now .apart) change,
-              (counted-taken (c .args .self .now .n) (c .args .self .now .spare) (vec-items (c .args .self .now .words)) (c .args .v .0) (c .args .w .0) (c .args .self .now .counted) (c .args .self .now .alike) (sym (c .if-not-has .ensures tt)) (sym (c .if-not-has-2 .ensures tt)) (c .if-v-w .left) (vec-items (refilled (c .args .self .now .words) (c .take-pipe .last .words))) (sym (c .if-not-joined .ensures tt)) change, tt),
-            ),
-          ),
-        ),
-      ),
-    )
+    let t : Tallied (c .args .self .now .n) (c .args .self .now .spare + 1) (vec-items (refilled (c .args .self .now .words) (c .take-pipe .last .words))) = cut-tallied (c .args .self .now) (c .args .v .0) (c .args .w .0) (sym (c .if-not-has .ensures tt)) (sym (c .if-not-has-2 .ensures tt)) (c .if-v-w .left) (c .deref-mut .result .now) (c .take-pipe .last .words) (c .deref-mut .ensures .value) (c .take-pipe .kept .words) (sym (c .if-not-joined .ensures tt)) (c .take-pipe .ensures) in
+    (c .args .self .now .some, (c .args .self .now .few, (c .args .self .now .room, (t .alike, (t .apart, (t .counted, tt))))))
 
 pub returns : need.returns
 returns c =
-    let change : (a b : ℕ) → joined (c .args .self .now .n) (vec-items (refilled (c .args .self .now .words) (c .take-pipe .last .words))) a b ≡ (not (same-pair (c .args .v .0) (c .args .w .0) a b) && joined (c .args .self .now .n) (vec-items (c .args .self .now .words)) a b) = lent-taken (c .args .self .now .words) (c .deref-mut .result .now) (c .take-pipe .last .words) (c .args .self .now .n) (c .args .v .0) (c .args .w .0) (c .deref-mut .ensures .value) (c .take-pipe .kept .words) (c .args .self .now .few) (sym (c .if-not-has .ensures tt)) (sym (c .if-not-has-2 .ensures tt)) (c .take-pipe .ensures) in
-    cut-made (c .args .self .now .n) (c .args .self .now .spare) (vec-items (c .args .self .now .words)) (c .args .v .0) (c .args .w .0) (c .args .self .now .counted) (c .args .self .now .alike) (sym (c .if-not-has .ensures tt)) (sym (c .if-not-has-2 .ensures tt)) (c .if-v-w .left) (vec-items (refilled (c .args .self .now .words) (c .take-pipe .last .words))) (sym (c .if-not-joined .ensures tt)) change
+    cut-done (c .args .self .now) (c .args .v .0) (c .args .w .0) (sym (c .if-not-has .ensures tt)) (sym (c .if-not-has-2 .ensures tt)) (c .if-v-w .left)
+    (c .deref-mut .result .now) (c .take-pipe .last .words) (c .deref-mut .ensures .value) (c .take-pipe .kept .words) (sym (c .if-not-joined .ensures tt)) (c .take-pipe .ensures)
