@@ -10,7 +10,9 @@ pub fn read_input(rt: &LibcRuntime, limit: u64) -> io::Result<Vec<u8>> {
     let mut bytes = Vec::new(rt.alloc());
     match env::args(rt)?.nth(1) {
         Some(name) => {
-            let _ = fs::open(rt, name.as_str())?.take(limit).read_to_end(&mut bytes)?;
+            let _ = fs::open(rt, name.as_str())?
+                .take(limit)
+                .read_to_end(&mut bytes)?;
         }
         None => {
             let _ = rt.stdin().take(limit).read_to_end(&mut bytes)?;

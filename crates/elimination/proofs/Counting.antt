@@ -1,6 +1,6 @@
 -- Counting the neighbours of a junction in the order of their numbers.
 use mathlib.Core.Path.{_≡_, refl, sym, ap, _∙_}
-use mathlib.Core.Bool.{Bool, true, false, cond}
+use mathlib.Core.Bool.{Bool, true, false}
 use Prim.Native.Nat.{ℕ, zero, suc, _+_, _-_, _≤_, _<_}
 use native.Mathlib.Omega.{arith}
 use mathlib.Core.Logic.{_⊎_, inl, inr}
@@ -8,7 +8,7 @@ use Rattle.std.specs.declared.option.Option.the-variants.{Some}
 use Rattle.std.proofs.shelf.Tests.{cases-bool, cases-eq, both-ways}
 use Rattle.plan.specs.Plans.{Plan, Sound, NextNeighbour, count, pairs}
 use Rattle.plan.specs.declared.number.Junction.{Junction}
-use Rattle.plan.proofs.Counts.{count-le}
+use Rattle.plan.proofs.Counts.{count-le, pairs-same}
 
 -- of the numbers up to k, which are below w, so many are neighbours of w
 pub record BelowTo (q : Plan) (w k found : ℕ) : Type 0 where
@@ -71,3 +71,14 @@ pairs-zero t (suc n) h (suc v) w i j k = go (cases-eq w (suc n)) (λ e. pairs-ze
     go : (w ≡ suc n) ⊎ (w ≡ suc n → ⊥) → (pairs t n ≡ 0 → w ≤ n → t (suc v) w ≡ false) → t (suc v) w ≡ false
     go (inl d) rest = rw d (count-zero (λ x. t (suc x) (suc n)) n (omega arith) v (omega arith))
     go (inr d) rest = rest (omega arith) (omega arith)
+
+count-none : (n : ℕ) → count (λ v. false) n ≡ 0
+count-none zero = refl
+count-none (suc n) = omega (arith, count-none n)
+
+pairs-none : (n : ℕ) → pairs (λ v w. false) n ≡ 0
+pairs-none zero = refl
+pairs-none (suc n) = omega (arith, pairs-none n, count-none n)
+
+pub no-pairs : (t : ℕ → ℕ → Bool) (n : ℕ) → ((v w : ℕ) → t v w ≡ false) → pairs t n ≡ 0
+no-pairs t n none = pairs-same t (λ v w. false) n (λ v w i j k. none v w) ∙ pairs-none n

@@ -1,12 +1,12 @@
 -- The filled graph of an order: it is closed, and it is the least such graph.
-use mathlib.Core.Path.{_≡_, refl, sym, ap, _∙_}
+use mathlib.Core.Path.{_≡_, refl, sym, _∙_}
 use mathlib.Core.Bool.{Bool, true, false, not, _&&_, _||_}
 use mathlib.Core.List.{List, [], _∷_}
 use mathlib.Core.Logic.{_⊎_, inl, inr}
-use Prim.Native.Nat.{ℕ, zero, suc, _+_, _≤_, _<_}
+use Prim.Native.Nat.{ℕ, suc, _<_}
 use native.Mathlib.Omega.{arith}
 use lib.Dec.{eqb}
-use Rattle.std.proofs.shelf.Tests.{cases-eq, cases-bool, and-parts, or-cases, or-left, or-right, or-from, eqb-true, eq-eqb, ne-eqb, both-ways}
+use Rattle.std.proofs.shelf.Tests.{cases-eq, cases-bool, or-cases, or-left, or-right, or-from, eq-eqb, ne-eqb, both-ways}
 use Rattle.std.proofs.shelf.Ways.{tells}
 use Rattle.plan.specs.Orders.{place}
 use Rattle.plan.proofs.Orders.{place-pos}

@@ -1,24 +1,25 @@
 -- The rows and the count while an order is eliminated.
-use mathlib.Core.Path.{_≡_, refl, sym, ap, _∙_}
-use mathlib.Core.Bool.{Bool, true, false, _||_}
+use mathlib.Core.Path.{_≡_, refl, sym, _∙_}
+use mathlib.Core.Bool.{true, false}
 use mathlib.Core.List.{List}
 use mathlib.Core.Logic.{_⊎_, inl, inr}
-use Prim.Native.Nat.{ℕ, zero, suc, _+_, _-_, _*_, _/_, _%_, _≤_, _<_}
+use Prim.Native.Nat.{ℕ, _+_, _-_, _*_, _/_, _%_, _≤_, _<_}
 use native.Mathlib.Omega.{arith}
 use lib.ListN.{length, getD}
-use Rattle.std.proofs.shelf.Tests.{cases-bool, cases-lt, both-ways, le-ltb}
+use Rattle.std.proofs.shelf.Tests.{cases-bool, le-ltb}
 use Rattle.bitset.specs.Bits.{bit, holds}
 use Rattle.bitset.proofs.BitLaws.{bit-of-zero}
 use native.Mathlib.Numerals.{add-one}
-use Rattle.plan.specs.Plans.{Plan, Sound, count, pairs}
-use Rattle.plan.specs.Orders.{ordered, place}
+use Rattle.plan.specs.Plans.{Plan, Sound, pairs}
+use Rattle.plan.specs.Orders.{ordered}
 use Rattle.plan.specs.Refusals.Verdict.{carried}
 use Rattle.plan.proofs.Counts.{pairs-same}
 use Rattle.plan.proofs.Orders.{IsOrder, place-at}
 use Rattle.elimination.specs.Elimination.{fill}
-use Rattle.elimination.specs.Rows.{marked, found, known, Places, Table, TakesOver, Eliminates, FillRows, Fills, fill-verdict, at}
+use Rattle.elimination.specs.Rows.{marked, found, Places, Table, Eliminates, Fills, fill-verdict, at}
+use Rattle.elimination.proofs.Counting.{no-pairs}
 use Rattle.elimination.proofs.Laws.{plan-simple}
-use Rattle.elimination.proofs.Marked.{number, marked-holds, word-of-number, bit-of-number}
+use Rattle.elimination.proofs.Marked.{marked-holds, word-of-number, bit-of-number}
 use Rattle.elimination.proofs.Neighbours.{found-marked, found-parts}
 use Rattle.elimination.proofs.Takeover.{Working, working-none, working-more, working-all}
 
@@ -44,17 +45,6 @@ found-clear n rows clear v w = go (cases-bool (found n rows v w))
         let b : marked rows v w ≡ bit (getD rows (8 * (v - 1) + (w - 1) / 64) 0) ((w - 1) % 64) = rw e at (marked-bit rows v (w - 1) (p .0) (omega arith)) in
         let z : getD rows (8 * (v - 1) + (w - 1) / 64) 0 ≡ 0 = clear (8 * (v - 1) + (w - 1) / 64) (omega arith) in
         found-marked n rows v w (p .1) ∙ b ∙ rw z (bit-of-zero ((w - 1) % 64))
-
-no-pairs : (t : ℕ → ℕ → Bool) (n : ℕ) → ((v w : ℕ) → t v w ≡ false) → pairs t n ≡ 0
-no-pairs t n none = pairs-same t (λ v w. false) n (λ v w i j k. none v w) ∙ pairs-none n
-  where
-    count-none : (n : ℕ) → count (λ v. false) n ≡ 0
-    count-none zero = refl
-    count-none (suc n) = omega (arith, count-none n)
-
-    pairs-none : (n : ℕ) → pairs (λ v w. false) n ≡ 0
-    pairs-none zero = refl
-    pairs-none (suc n) = omega (arith, pairs-none n, count-none n)
 
 module _ (q : Plan) (s : Sound q) (us : List ℕ) (o : IsOrder (q .size) us) where
   ends : (v w : ℕ) → q .joins v w ≡ true → (1 ≤ v) × (v ≤ q .size) × (1 ≤ w) × (w ≤ q .size)

@@ -1,8 +1,8 @@
 -- The law of no fill and the path law.
 use mathlib.Core.Path.{_≡_, refl, sym, ap, _∙_}
 use mathlib.Core.Bool.{Bool, true, false}
-use mathlib.Core.List.{List, [], _∷_}
-use mathlib.Core.Logic.{_⊎_, inl, inr, _↔_}
+use mathlib.Core.List.{List}
+use mathlib.Core.Logic.{_⊎_, inl, inr}
 use Prim.Native.Nat.{ℕ, zero, suc, min, _+_, _≤_, _<_}
 use native.Mathlib.Omega.{arith}
 use Rattle.std.proofs.shelf.Tests.{cases-eq, cases-lt, cases-bool, both-ways}
@@ -12,7 +12,7 @@ use Rattle.plan.proofs.Orders.{IsOrder, order-of, place-apart}
 use Rattle.elimination.specs.Elimination.{new, eliminated, fill, filled, cells}
 use Rattle.elimination.specs.Laws.{Perfect, NoFillLaw, Route, PathLaw, WorkedPlans}
 use Rattle.elimination.specs.Laws.Route.{pipe, via}
-use Rattle.elimination.proofs.Counting.{pairs-zero}
+use Rattle.elimination.proofs.Counting.{pairs-zero, no-pairs}
 use Rattle.elimination.proofs.Filled.{Simple, fill-alike, fill-apart, fill-lone, fill-no-pipe, filled-pipe, filled-fill, filled-cases, filled-closed, filled-least}
 
 pub plan-simple : (p : Plan) → Sound p → Simple (p .joins)
@@ -68,8 +68,13 @@ no-fill-from-count q s us h v w = go (cases-bool (fill (q .joins) us v w))
     go (inl t) = ordered t (cases-lt v w) (cases-lt w v)
 
 pub no-fill-law : NoFillLaw
-no-fill-law p s us =
-    (perfect-from-no-fill (p .joins) us (plan-simple p s), no-fill-from-perfect (p .joins) us (plan-simple p s))
+no-fill-law p s us = (
+  (perfect-from-no-fill (p .joins) us (plan-simple p s), no-fill-from-perfect (p .joins) us (plan-simple p s)),
+  (
+    λ h. perfect-from-no-fill (p .joins) us (plan-simple p s) (no-fill-from-count p s us h),
+    λ h. no-pairs (fill (p .joins) us) (p .size) (no-fill-from-perfect (p .joins) us (plan-simple p s) h),
+  ),
+)
 
 module _ (g : ℕ → ℕ → Bool) (s : Simple g) where
   -- a path with other words for its inner junctions

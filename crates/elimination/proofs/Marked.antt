@@ -1,22 +1,21 @@
 -- Marks in rows of words.
-use mathlib.Core.Path.{_≡_, refl, sym, ap, ap₂, _∙_}
-use mathlib.Core.Bool.{Bool, true, false, not, _&&_, _||_}
-use mathlib.Core.List.{List, [], _∷_}
+use mathlib.Core.Path.{_≡_, refl, sym, ap, _∙_}
+use mathlib.Core.Bool.{Bool, true, false, _&&_, _||_}
+use mathlib.Core.List.{List}
 use mathlib.Core.Logic.{_⊎_, inl, inr}
-use Prim.Native.Nat.{ℕ, zero, suc, _+_, _-_, _*_, _/_, _%_, _^_, _≤_, _<_}
+use Prim.Native.Nat.{ℕ, _+_, _-_, _*_, _/_, _%_, _≤_, _<_}
 use native.Mathlib.Omega.{arith}
-use lib.Dec.{eqb, leb, ltb}
-use lib.ListN.{length, getD, take, drop}
+use lib.Dec.{eqb, ltb}
+use lib.ListN.{length, getD}
 use Rattle.std.specs.Holes.{between}
 use Rattle.std.specs.declared.option.Option.the-variants.{Some, None}
 use Rattle.std.proofs.shelf.Edits.{getD-between, length-between}
-use Rattle.std.proofs.shelf.Tests.{cases-eq, cases-lt, cases-bool, or-cases, or-left, or-right, both-ways, eq-eqb, ne-eqb, lt-ltb}
+use Rattle.std.proofs.shelf.Tests.{cases-eq, cases-lt, cases-bool, eq-eqb, ne-eqb, lt-ltb}
 use Rattle.std.proofs.shelf.Ways.{tells}
-use Rattle.bitset.specs.Bits.{bit, holds, Inserted, NextHeld}
-use Rattle.bitset.proofs.BitLaws.{bit-of-zero}
-use Rattle.bitset.proofs.Held.{held-below, holds-past, none-held}
+use Rattle.bitset.specs.Bits.{holds, Inserted, NextHeld}
+use Rattle.bitset.proofs.Held.{held-below, none-held}
 use Rattle.plan.specs.Registers.{same-pair}
-use Rattle.elimination.specs.Rows.{marked, found, Marks, NextIn}
+use Rattle.elimination.specs.Rows.{marked, Marks, NextIn}
 
 -- the number that stands for w in the row of v
 abbrev pub number : ℕ → ℕ → ℕ
@@ -30,7 +29,7 @@ pub marked-parts : (rows : List ℕ) (v w : ℕ) → marked rows v w ≡ true �
 unfolding marked
 marked-parts rows v w h = grind (arith, tells)
 
--- words outside the row of v are not those of its numbers
+-- the numbers of v's row stand in its eight words
 word-in-row : (v w : ℕ) → 1 ≤ v → 1 ≤ w → w ≤ 512 → number v w / 64 / 8 ≡ v - 1
 word-in-row v w a b c = omega arith
 
@@ -58,8 +57,8 @@ eqb-number v w a b i j k x y z = go (cases-eq a v) (cases-eq b w)
     go (inr d) e = rw (ne-eqb a v d) (ne-eqb (number a b) (number v w) (λ q. d (number-apart v w a b i j k x y z q .0)))
     go (inl d) (inr e) = rw (eq-eqb a v d, ne-eqb b w e) (ne-eqb (number a b) (number v w) (λ q. e (number-apart v w a b i j k x y z q .1)))
 
-either : (a b c x y z t s : Bool) → a ≡ ((x && t) || b) → b ≡ ((y && s) || c) → t ≡ true → s ≡ true → a ≡ ((y || x) || c)
-either a b c x y z t s p q i j = grind arith
+either : (a b c x y t s : Bool) → a ≡ ((x && t) || b) → b ≡ ((y && s) || c) → t ≡ true → s ≡ true → a ≡ ((y || x) || c)
+either a b c x y t s p q i j = grind arith
 
 module _ (before mid after : List ℕ) (v w : ℕ) (1≤v : 1 ≤ v) (v≤ : v ≤ 512) (1≤w : 1 ≤ w) (w≤ : w ≤ 512) (v-in : 8 * v ≤ length before) (w-in : 8 * w ≤ length before) (long : length mid ≡ length before) (first : Inserted before (number v w) mid) (second : Inserted mid (number w v) after) where
   -- a pair put into both its rows is marked
@@ -84,7 +83,7 @@ module _ (before mid after : List ℕ) (v w : ℕ) (1≤v : 1 ≤ v) (v≤ : v �
           let t : ltb (number w v / 64) (length mid) ≡ true = lt-ltb (number w v / 64) (length mid) (omega arith) in
           let s : ltb (number v w / 64) (length before) ≡ true = lt-ltb (number v w / 64) (length before) (omega arith) in
           rw (marked-holds after a b i j k, marked-holds before a b i j k, ← x, ← y)
-          (either (holds after (number a b)) (holds mid (number a b)) (holds before (number a b)) (eqb (number a b) (number w v)) (eqb (number a b) (number v w)) true (ltb (number w v / 64) (length mid)) (ltb (number v w / 64) (length before)) (second .bits (number a b)) (first .bits (number a b)) t s)
+          (either (holds after (number a b)) (holds mid (number a b)) (holds before (number a b)) (eqb (number a b) (number w v)) (eqb (number a b) (number v w)) (ltb (number w v / 64) (length mid)) (ltb (number v w / 64) (length before)) (second .bits (number a b)) (first .bits (number a b)) t s)
 
       go : (a b : ℕ) → (0 < a) ⊎ (a ≤ 0) → (0 < b) ⊎ (b ≤ 0) → (512 < b) ⊎ (b ≤ 512) → marked after a b ≡ (same-pair v w a b || marked before a b)
       go a b (inl i) (inl j) (inr k) = inside a b i j k
@@ -104,9 +103,6 @@ module _ (rows : List ℕ) (v : ℕ) (1≤v : 1 ≤ v) (v-in : 8 * v ≤ length 
   row-holds i h =
       let p : getD row (i / 64) 0 ≡ getD rows (8 * (v - 1) + i / 64) 0 = getD-between rows (8 * (v - 1)) (8 * (v - 1) + 8) (i / 64) 0 (omega arith) in
       rw (marked-holds rows v (i + 1) 1≤v (omega arith) (omega arith), word-of-number v i 1≤v h, bit-of-number v i 1≤v h, p) refl
-
-  row-past : (i : ℕ) → 512 ≤ i → holds row i ≡ false
-  row-past i h = holds-past row i (omega (arith, row-length))
 
   row-below : (i : ℕ) → holds row i ≡ true → i < 512
   row-below i h = omega (arith, held-below row i h, row-length)

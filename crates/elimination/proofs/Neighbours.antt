@@ -1,21 +1,20 @@
 -- The neighbours of a junction by pipes and by marks, in the order of their numbers, and the earliest placed of them.
-use mathlib.Core.Path.{_≡_, refl, sym, ap, _∙_}
-use mathlib.Core.Bool.{Bool, true, false, not, cond, _&&_, _||_}
+use mathlib.Core.Path.{_≡_, refl, sym, _∙_}
+use mathlib.Core.Bool.{Bool, true, false, _&&_, _||_}
 use mathlib.Core.List.{List}
 use mathlib.Core.Logic.{_⊎_, inl, inr}
-use Prim.Native.Nat.{ℕ, zero, suc, _+_, _-_, _*_, _≤_, _<_}
+use Prim.Native.Nat.{ℕ, _≤_, _<_}
 use native.Mathlib.Omega.{arith}
-use lib.Dec.{eqb, leb, ltb}
-use lib.ListN.{length, getD}
+use lib.Dec.{leb}
 use Rattle.std.specs.declared.option.Option.{Option}
 use Rattle.std.specs.declared.option.Option.the-variants.{Some, None}
-use Rattle.std.proofs.shelf.Tests.{cases-eq, cases-lt, cases-bool, or-cases, or-left, or-right, or-from, both-ways, eq-eqb, ne-eqb}
+use Rattle.std.proofs.shelf.Tests.{or-cases, or-left, or-right, or-from}
 use Rattle.std.specs.Options.{Cases}
 use Rattle.std.proofs.shelf.Ways.{tells}
 use Rattle.plan.specs.Plans.{Plan, Sound}
 use Rattle.plan.specs.Registers.{same-pair}
 use Rattle.plan.specs.declared.number.Junction.{Junction}
-use Rattle.elimination.specs.Rows.{marked, found, known, Marks, Joins, NextIn, Earliest, earlier-of}
+use Rattle.elimination.specs.Rows.{marked, found, known, Marks, Joins, NextIn}
 use Rattle.elimination.proofs.Marked.{marked-parts}
 
 pub found-marked : (n : ℕ) (rows : List ℕ) (v w : ℕ) → v ≤ n → found n rows v w ≡ marked rows v w
@@ -63,17 +62,17 @@ pub joins-already : (q : Plan) (rows : List ℕ) (p u : ℕ) → known q rows p 
 joins-already q rows p u h =
     record { says = rw h refl; marks = λ a b. refl; behind = λ k l. refl }
 
-found-both : (l e m s : Bool) → (l ≡ false → s ≡ false) → (l && (s || m)) ≡ (s || (l && m))
-found-both true e m s h = refl
-found-both false e m true h = sym (h refl)
-found-both false e m false h = refl
+found-both : (l m s : Bool) → (l ≡ false → s ≡ false) → (l && (s || m)) ≡ (s || (l && m))
+found-both true m s h = refl
+found-both false m true h = sym (h refl)
+found-both false m false h = refl
 
 module _ (q : Plan) (before after : List ℕ) (p u : ℕ) (p-in : p ≤ q .size) (u-in : u ≤ q .size) (1≤p : 1 ≤ p) (1≤u : 1 ≤ u) where
   found-marks : Marks before p u after → (a b : ℕ) → found (q .size) after a b ≡ (same-pair p u a b || found (q .size) before a b)
   unfolding found
   found-marks m a b =
       rw (m .pairs a b)
-      (found-both (leb a (q .size)) true (marked before a b) (same-pair p u a b) (λ e. grind (arith, tells)))
+      (found-both (leb a (q .size)) (marked before a b) (same-pair p u a b) (λ e. grind (arith, tells)))
 
   pub joins-marked : known q before p u ≡ false → Marks before p u after → Joins q p u before true after
   joins-marked h m =
@@ -86,8 +85,8 @@ module _ (q : Plan) (before after : List ℕ) (p u : ℕ) (p-in : p ≤ q .size)
 pub earliest-none : (q : Plan) → Sound q → (rows : List ℕ) (at : ℕ → ℕ) (v : ℕ) → EarliestTo (known q rows) at v 0 None
 earliest-none q s rows at v u l h = absurd (omega (arith, known-inside q s rows v u h .0))
 
-pub earliest-inside : (q : Plan) → Sound q → (rows : List ℕ) (at : ℕ → ℕ) (v k : ℕ) (r : Option Junction) → EarliestTo (known q rows) at v k r → Cases r (0 ≤ 0) (λ p. (1 ≤ p .0) × (p .0 ≤ 512))
-earliest-inside q s rows at v k None h = omega arith
+pub earliest-inside : (q : Plan) → Sound q → (rows : List ℕ) (at : ℕ → ℕ) (v k : ℕ) (r : Option Junction) → EarliestTo (known q rows) at v k r → Cases r (Unit {0}) (λ p. (1 ≤ p .0) × (p .0 ≤ 512))
+earliest-inside q s rows at v k None h = tt
 earliest-inside q s rows at v k (Some p) h = known-inside q s rows v (p .0) (h .0)
 
 pub known-by-pipe : (q : Plan) (rows : List ℕ) (v w : ℕ) → q .joins v w ≡ true → known q rows v w ≡ true

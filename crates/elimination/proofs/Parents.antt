@@ -1,22 +1,21 @@
 -- The earliest later neighbour takes over the others, one after the other in the order of their numbers.
-use mathlib.Core.Path.{_≡_, refl, sym, ap, ap₂, _∙_}
-use mathlib.Core.Bool.{Bool, true, false, not, cond, _&&_, _||_}
+use mathlib.Core.Path.{_≡_, refl, sym, ap, _∙_}
+use mathlib.Core.Bool.{Bool, true, false, not, _&&_, _||_}
 use mathlib.Core.List.{List}
 use mathlib.Core.Logic.{_⊎_, inl, inr}
-use Prim.Native.Nat.{ℕ, zero, suc, _+_, _-_, _*_, _≤_, _<_}
+use Prim.Native.Nat.{ℕ, _+_, _*_, _≤_, _<_}
 use native.Mathlib.Omega.{arith}
-use lib.Dec.{eqb, leb, ltb}
-use lib.ListN.{length, getD}
-use Rattle.std.specs.declared.option.Option.{Option}
+use lib.Dec.{eqb, leb}
+use lib.ListN.{getD}
 use Rattle.std.specs.declared.option.Option.the-variants.{Some, None}
-use Rattle.std.proofs.shelf.Tests.{cases-eq, cases-lt, cases-bool, or-cases, or-left, or-right, or-from, or-parts, and-right, not-true, not-false, both-ways, eq-eqb, ne-eqb, le-leb, lt-leb}
+use Rattle.std.proofs.shelf.Tests.{cases-eq, cases-lt, cases-bool, or-cases, or-parts, and-right, not-true, not-false, both-ways, eq-eqb, ne-eqb, le-leb, lt-leb}
 use Rattle.std.proofs.shelf.Bits.{mul-le}
 use Rattle.std.proofs.shelf.Ways.{tells}
 use Rattle.plan.specs.Plans.{Plan, Sound, pairs}
 use Rattle.plan.specs.Registers.{same-pair}
 use Rattle.plan.specs.declared.number.Junction.{Junction}
 use Rattle.plan.proofs.Counts.{pairs-same, pairs-more, pairs-le}
-use Rattle.elimination.specs.Rows.{marked, found, known, Joins, Table, NextIn, takes, taken, TakesOver, Eliminates}
+use Rattle.elimination.specs.Rows.{found, known, Joins, Table, NextIn, takes, taken, TakesOver, Eliminates}
 use Rattle.elimination.proofs.Neighbours.{found-parts, known-inside}
 use Rattle.elimination.proofs.Takeover.{takes-parts, takes-from, taken-cases}
 

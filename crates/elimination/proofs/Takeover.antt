@@ -1,12 +1,12 @@
 -- Eliminating junctions in the order of their places, where only the earliest later neighbour takes over the others, finds the fill.
-use mathlib.Core.Path.{_≡_, refl, sym, ap, _∙_}
+use mathlib.Core.Path.{_≡_, sym, ap, _∙_}
 use mathlib.Core.Bool.{Bool, true, false, not, _&&_, _||_}
-use mathlib.Core.List.{List, [], _∷_}
+use mathlib.Core.List.{List}
 use mathlib.Core.Logic.{_⊎_, inl, inr}
-use Prim.Native.Nat.{ℕ, zero, suc, _+_, _-_, _≤_, _<_}
+use Prim.Native.Nat.{ℕ, zero, suc, _+_, _≤_, _<_}
 use native.Mathlib.Omega.{arith}
-use lib.Dec.{eqb, ltb}
-use Rattle.std.proofs.shelf.Tests.{cases-eq, cases-lt, cases-bool, or-cases, or-left, or-right, both-ways, eq-eqb, ne-eqb}
+use lib.Dec.{eqb}
+use Rattle.std.proofs.shelf.Tests.{cases-eq, cases-lt, cases-bool, or-cases, or-left, or-right, both-ways}
 use Rattle.std.proofs.shelf.Ways.{tells}
 use Rattle.plan.specs.Orders.{place}
 use Rattle.plan.proofs.Orders.{IsOrder, at-place, place-apart}

@@ -1,8 +1,7 @@
 -- Vertex elimination: a junction is taken out of a plan once every two of its neighbours are joined. The pairs that this joins anew are the fill.
-use mathlib.Core.Path.{_≡_}
-use mathlib.Core.Bool.{Bool, true, false, not, _&&_, _||_}
+use mathlib.Core.Bool.{Bool, false, not, _&&_, _||_}
 use mathlib.Core.List.{List, [], _∷_}
-use Prim.Native.Nat.{ℕ, _+_, _<_}
+use Prim.Native.Nat.{ℕ, _+_}
 use lib.Dec.{eqb}
 use Rattle.plan.specs.Plans.{Plan, pairs}
 

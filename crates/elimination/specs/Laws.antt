@@ -1,10 +1,10 @@
 -- What the fill of an order is, without eliminating: two laws, and small plans worked out.
 use mathlib.Core.Path.{_≡_}
-use mathlib.Core.Bool.{Bool, true, false, not, cond, _&&_, _||_}
+use mathlib.Core.Bool.{Bool, true, false, cond, _||_}
 use mathlib.Core.List.{List, [], _∷_}
 use mathlib.Core.Logic.{_↔_}
-use Prim.Native.Nat.{ℕ, zero, suc, _+_, _<_}
-use Rattle.plan.specs.Plans.{Plan, Sound, within}
+use Prim.Native.Nat.{ℕ, zero, suc, _<_}
+use Rattle.plan.specs.Plans.{Plan, Sound, within, pairs}
 use Rattle.plan.specs.Orders.{ordered, place}
 use Rattle.plan.specs.Refusals.Verdict.{refused}
 use Rattle.plan.specs.Registers.{same-pair}
@@ -56,9 +56,9 @@ pub record WorkedPlans : Type 0 where
 abbrev pub Perfect : (ℕ → ℕ → Bool) → List ℕ → Type 0
 Perfect g us = (v a b : ℕ) → g v a ≡ true → g v b ≡ true → place us v < place us a → place us v < place us b → (a ≡ b → ⊥) → g a b ≡ true
 
--- an order has no fill exactly where it is perfect
+-- an order has no fill exactly where it is perfect, and its count of fill pairs is then 0
 abbrev pub NoFillLaw : Type 0
-NoFillLaw = (p : Plan) → Sound p → (us : List ℕ) → ((v w : ℕ) → fill (p .joins) us v w ≡ false) ↔ Perfect (p .joins) us
+NoFillLaw = (p : Plan) → Sound p → (us : List ℕ) → (((v w : ℕ) → fill (p .joins) us v w ≡ false) ↔ Perfect (p .joins) us) × ((pairs (fill (p .joins) us) (p .size) ≡ 0) ↔ Perfect (p .joins) us)
 
 -- a path of pipes from v to w: one pipe, or a pipe to an inner junction x and a path from there
 pub data Route (g : ℕ → ℕ → Bool) (inner : ℕ → Type 0) : ℕ → ℕ → Type 0 where

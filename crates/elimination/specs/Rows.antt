@@ -75,6 +75,10 @@ abbrev pub earlier-of : (ℕ → ℕ) → Option Junction → Junction → Junct
 earlier-of at None u = u
 earlier-of at (Some p) u = cond (leb (at (p .0)) (at (u .0))) p u
 
+-- so many pairs were added to the rows
+abbrev pub Adds : Plan → List ℕ → ℕ → List ℕ → Type 0
+Adds q before added after = added + pairs (found (q .size) before) (q .size) ≡ pairs (found (q .size) after) (q .size)
+
 -- p takes u over from v: u is another neighbour of v at a later place, and not joined to p
 unfoldable pub takes : (ℕ → ℕ → Bool) → (ℕ → ℕ) → ℕ → ℕ → ℕ → Bool
 takes g at v p u = g v u && ltb (at v) (at u) && not (eqb u p) && not (g p u)
@@ -94,7 +98,7 @@ pub record TakesOver (q : Plan) (at : ℕ → ℕ) (v p : ℕ) (before after : L
   pub marks : (a b : ℕ) → found (q .size) after a b ≡ (taken (known q before) at v p a b || found (q .size) before a b)
   pub behind : (k : ℕ) → 8 * q .size ≤ k → getD after k 0 ≡ getD before k 0
 
--- the rows before and after v was eliminated: the earliest of its later neighbours, where it has any, took over the others
+-- the rows before and after v was eliminated: its parent in the elimination tree, the earliest of its later neighbours where it has any, took over the others
 pub record Eliminates (q : Plan) (at : ℕ → ℕ) (v : ℕ) (before after : List ℕ) : Type 0 where
   pub parent : ℕ
   pub earliest : (u : ℕ) → known q before v u ≡ true → at v < at u → (known q before v parent ≡ true) × (at v < at parent) × (at parent ≤ at u)

@@ -1,11 +1,10 @@
 //! One step of the elimination: of a junction's neighbours at later places the earliest takes
 //! over the others. The fill that this leaves out comes when that neighbour is eliminated.
 ghost use mathlib.Core.Path.{_≡_};
-ghost use Prim.Native.Nat.{ℕ, _+_, _*_, _<_, _≤_};
+ghost use Prim.Native.Nat.{_*_, _<_, _≤_};
 ghost use lib.ListN.{length};
 ghost use Rattle.std.specs.Options.{Cases};
-ghost use Rattle.plan.specs.Plans.{pairs};
-ghost use Rattle.elimination.specs.Rows.{found, known, at, NextIn, Table, Earliest, Joins, TakesOver, Eliminates, earlier-of};
+ghost use Rattle.elimination.specs.Rows.{known, at, NextIn, Table, Earliest, Joins, Adds, TakesOver, Eliminates, earlier-of};
 use crate::rows::is_marked;
 use crate::rows::mark;
 use crate::rows::next_marked;
@@ -34,7 +33,7 @@ fn next_known<P: ReadablePlan>(plan: &P, rows: &[u64], v: Junction, w: Junction)
 
 // Of two junctions the one at the earlier place, where the first may be missing.
 fn earlier(places: &[u16; 512], best: Option<Junction>, u: Junction) -> Junction
-    requires best { ⌜ Cases best (0 ≤ 0) (λ p. (1 ≤ p .0) × (p .0 ≤ 512)) ⌝ }
+    requires best { ⌜ Cases best (Unit {0}) (λ p. (1 ≤ p .0) × (p .0 ≤ 512)) ⌝ }
     requires other { ⌜ 1 ≤ u .0 ⌝ ∗ ⌜ u .0 ≤ 512 ⌝ }
     ensures { λ r. ⌜ r ≡ earlier-of (at (now (places .entry))) best u ⌝ }
 {
@@ -98,7 +97,7 @@ fn take_over<P: ReadablePlan>(
     requires second { ⌜ 1 ≤ p .0 ⌝ ∗ ⌜ p .0 ≤ meaning (now plan) .size ⌝ }
     requires later { ⌜ at (now places) (v .0) < at (now places) (p .0) ⌝ }
     ensures rows { λ _. ⌜ TakesOver (meaning (now (plan .entry))) (at (now (places .entry))) (v .0) (p .0) (now (rows .entry)) (now (rows .exit)) ⌝ }
-    ensures count { λ r. ⌜ r + pairs (found (meaning (now (plan .entry)) .size) (now (rows .entry))) (meaning (now (plan .entry)) .size) ≡ pairs (found (meaning (now (plan .entry)) .size) (now (rows .exit))) (meaning (now (plan .entry)) .size) ⌝ }
+    ensures count { λ r. ⌜ Adds (meaning (now (plan .entry))) (now (rows .entry)) r (now (rows .exit)) ⌝ }
 {
     let mut added = 0;
     let mut last = Junction(0);
@@ -121,7 +120,7 @@ pub(crate) fn eliminate<P: ReadablePlan>(
     requires table { ⌜ Table (meaning (now plan) .size) (now rows) ⌝ }
     requires junction { ⌜ 1 ≤ v .0 ⌝ ∗ ⌜ v .0 ≤ meaning (now plan) .size ⌝ }
     ensures rows { λ _. ⌜ Eliminates (meaning (now (plan .entry))) (at (now (places .entry))) (v .0) (now (rows .entry)) (now (rows .exit)) ⌝ }
-    ensures count { λ r. ⌜ r + pairs (found (meaning (now (plan .entry)) .size) (now (rows .entry))) (meaning (now (plan .entry)) .size) ≡ pairs (found (meaning (now (plan .entry)) .size) (now (rows .exit))) (meaning (now (plan .entry)) .size) ⌝ }
+    ensures count { λ r. ⌜ Adds (meaning (now (plan .entry))) (now (rows .entry)) r (now (rows .exit)) ⌝ }
 {
     match earliest(plan, places, rows, v) {
         Some(p) => take_over(plan, places, rows, v, p),

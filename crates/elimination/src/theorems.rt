@@ -2,8 +2,8 @@
 ghost use mathlib.Core.Path.{_≡_};
 ghost use Rattle.elimination.specs.Laws.{NoFillLaw, PathLaw, WorkedPlans};
 
-/// An order has no fill exactly where, for every junction, its neighbours at later places are
-/// joined pairwise. Answers 1.
+/// An order has no fill, and `fill` answers 0, exactly where it is perfect: for every junction, its
+/// neighbours at later places are joined pairwise. Answers 1.
 pub fn no_fill_law() -> u8
     ensures law { λ _. ⌜ NoFillLaw ⌝ }
     ensures one { λ r. ⌜ r ≡ 1 ⌝ }

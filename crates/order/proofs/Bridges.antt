@@ -98,11 +98,14 @@ module _ (g : ℕ → ℕ → Bool) (k : ℕ) (p : ℕ → ℕ) (path : Path g k
           let s : a ≡ i = omega arith in
           rw (onto-path i p z a (omega arith), onto-end i p z b x) (rw s (r .joined))
       step a b e l (inr x) = rw (onto-path i p z a (omega arith), onto-path i p z b x) (path .step a b e (omega (arith, r .upto)))
+
       close : (j : ℕ) → j + 1 ≡ i + 2 → g (onto i p z 0) (onto i p z j) ≡ true
       close j e = rw (onto-path i p z 0 (omega arith), onto-end i p z j (omega arith)) h
+
       apart : (a b : ℕ) → a + 1 < b → b < i + 2 → b + 1 < i + 2 + a → (i < b) ⊎ (b ≤ i) → g (onto i p z a) (onto i p z b) ≡ false
       apart a b l m n (inl x) = rw (onto-path i p z a (omega arith), onto-end i p z b x) (r .none a (omega arith) (omega arith))
       apart a b l m n (inr x) = rw (onto-path i p z a (omega arith), onto-path i p z b x) (path .apart a b l (omega (arith, r .upto)))
+
       once : (a b : ℕ) → a < b → b < i + 2 → onto i p z a ≡ onto i p z b → (i < b) ⊎ (b ≤ i) → ⊥
       once a b l m e (inl x) = r .fresh a (omega (arith, r .upto)) (sym (onto-path i p z a (omega arith)) ∙ e ∙ onto-end i p z b x)
       once a b l m e (inr x) = path .once a b l (omega (arith, r .upto)) (sym (onto-path i p z a (omega arith)) ∙ e ∙ onto-path i p z b x)
@@ -120,10 +123,12 @@ module _ (g : ℕ → ℕ → Bool) (k : ℕ) (p : ℕ → ℕ) (path : Path g k
           let s : a ≡ i = omega arith in
           rw (onto-path i p z a (omega arith), onto-end i p z b x) (rw s (r .joined))
       step a b e l (inr x) = rw (onto-path i p z a (omega arith), onto-path i p z b x) (path .step a b e (omega (arith, r .upto)))
+
       apart : (a b : ℕ) → a + 1 < b → b ≤ i + 1 → (i < b) ⊎ (b ≤ i) → (a ≡ 0) ⊎ (a ≡ 0 → ⊥) → g (onto i p z a) (onto i p z b) ≡ false
       apart a b l m (inl x) (inl e) = rw (onto-path i p z a (omega arith), onto-end i p z b x) (rw e h)
       apart a b l m (inl x) (inr ne) = rw (onto-path i p z a (omega arith), onto-end i p z b x) (r .none a (omega arith) (omega arith))
       apart a b l m (inr x) c = rw (onto-path i p z a (omega arith), onto-path i p z b x) (path .apart a b l (omega (arith, r .upto)))
+
       once : (a b : ℕ) → a < b → b ≤ i + 1 → onto i p z a ≡ onto i p z b → (i < b) ⊎ (b ≤ i) → ⊥
       once a b l m e (inl x) = r .fresh a (omega (arith, r .upto)) (sym (onto-path i p z a (omega arith)) ∙ e ∙ onto-end i p z b x)
       once a b l m e (inr x) = path .once a b l (omega (arith, r .upto)) (sym (onto-path i p z a (omega arith)) ∙ e ∙ onto-path i p z b x)
@@ -151,19 +156,25 @@ module _ (g : ℕ → ℕ → Bool) (alike : (v w : ℕ) → g v w ≡ g w v) (l
           start : (l .0 ≡ 1) ⊎ (l .0 ≡ 1 → ⊥) → 2 ≤ l .0
           start (inl e) = absurd (both-ways _ first (sym (ap (λ j. g (p j) z) e) ∙ l .3))
           start (inr ne) = omega (arith, l .1)
+
           fresh : (j : ℕ) → j ≤ k → p j ≡ z → (j ≡ 0) ⊎ (j ≡ 0 → ⊥) → (j ≡ k) ⊎ (j ≡ k → ⊥) → ⊥
           fresh j h e (inl a) c = both-ways _ (alike _ _ ∙ far) (ap (g (p k)) (ap p (sym a) ∙ e) ∙ last)
           fresh j h e (inr a) (inl c) = both-ways _ (loose (p k)) (ap (g (p k)) (ap p (sym c) ∙ e) ∙ last)
           fresh j h e (inr a) (inr c) = let q : place (p j) ≡ place z = ap place e in omega (arith, b .inner j (omega arith) (omega arith), b .last)
+
           done : (i : ℕ) → Reaches g k p z i → (g (p 0) z ≡ true) ⊎ (g (p 0) z ≡ false) → SomeRound g ⊎ ((j : ℕ) × (q : ℕ → ℕ) × Bridge g place (place (p k)) j q)
           done i r (inl h) = inl (i + 2, onto i p z, onto-round g k p (b .path) z i r h)
-          done i r (inr h) = inr (i + 1, onto i p z, record {
-            long = omega (arith, r .from);
-            path = onto-further g k p (b .path) z i r h;
-            inner = λ j x y. rw (onto-path i p z j (omega arith)) (below j x (omega arith) (cases-eq j k));
-            first = rw (onto-path i p z 0 (omega arith)) low;
-            last = rw (onto-end i p z (i + 1) (omega arith)) high;
-          })
+          done i r (inr h) = inr (
+            i + 1,
+            onto i p z,
+            record {
+              long = omega (arith, r .from);
+              path = onto-further g k p (b .path) z i r h;
+              inner = λ j x y. rw (onto-path i p z j (omega arith)) (below j x (omega arith) (cases-eq j k));
+              first = rw (onto-path i p z 0 (omega arith)) low;
+              last = rw (onto-end i p z (i + 1) (omega arith)) high;
+            },
+          )
             where
               below : (j : ℕ) → 0 < j → j ≤ i → (j ≡ k) ⊎ (j ≡ k → ⊥) → place (p j) ≤ place (p k)
               below j x y (inl e) = let q : place (p j) ≡ place (p k) = ap (λ a. place (p a)) e in omega arith
@@ -177,6 +188,7 @@ module _ (g : ℕ → ℕ → Bool) (alike : (v w : ℕ) → g v w ≡ g w v) (l
         out : (s : ℕ) (q : ℕ → ℕ) → Bridge g place m k q → q k ≡ s → SomeRound g ⊎ ((j : ℕ) × (r : ℕ → ℕ) × Bridge g place (place (q k)) j r) → SomeRound g ⊎ ((m′ : ℕ) × (m < m′) × (j : ℕ) × (r : ℕ → ℕ) × Bridge g place m′ j r)
         out s q c e (inl r) = inl r
         out s q c e (inr r) = inr (place (q k), c .last, r .0, r .1, r .2)
+
         go : (place (p k) ≡ place (p 0)) ⊎ ((place (p k) < place (p 0)) ⊎ (place (p 0) < place (p k))) → SomeRound g ⊎ ((m′ : ℕ) × (m < m′) × (j : ℕ) × (q : ℕ → ℕ) × Bridge g place m′ j q)
         go (inl e) = absurd (b .path .once 0 k (omega (arith, b .long)) (omega arith) (sym (distinct (p k) (p 0) (p (k - 1)) (p 1) (alike _ _ ∙ b .path .step (k - 1) k (omega (arith, b .long)) (omega arith)) (b .path .step 0 1 (omega arith) (omega (arith, b .long))) e)))
         go (inr (inl l)) = out (p k) p b refl (raised m k p b l)
@@ -208,6 +220,7 @@ module _ (g : ℕ → ℕ → Bool) (alike : (v w : ℕ) → g v w ≡ g w v) (l
         three zero = x
         three (suc zero) = v
         three (suc (suc i)) = y
+
         step : (i j : ℕ) → j ≡ i + 1 → j ≤ 2 → g (three i) (three j) ≡ true
         step zero zero e h = absurd (omega arith)
         step zero (suc zero) e h = alike x v ∙ a
@@ -216,11 +229,13 @@ module _ (g : ℕ → ℕ → Bool) (alike : (v w : ℕ) → g v w ≡ g w v) (l
         step (suc zero) (suc zero) e h = absurd (omega arith)
         step (suc zero) (suc (suc j)) e h = b
         step (suc (suc i)) j e h = absurd (omega arith)
+
         apart : (i j : ℕ) → i + 1 < j → j ≤ 2 → g (three i) (three j) ≡ false
         apart zero zero e h = absurd (omega arith)
         apart zero (suc zero) e h = absurd (omega arith)
         apart zero (suc (suc j)) e h = f
         apart (suc i) j e h = absurd (omega arith)
+
         once : (i j : ℕ) → i < j → j ≤ 2 → three i ≡ three j → ⊥
         once zero zero e h q = absurd (omega arith)
         once zero (suc zero) e h q = both-ways _ (loose v) (ap (g v) (sym q) ∙ a)

@@ -28,9 +28,11 @@ lowest f (suc k) = go (lowest f k)
         keep : (f (r .0) ≤ f (suc k)) → (j : ℕ) → j ≤ suc k → (j ≡ suc k) ⊎ (j ≡ suc k → ⊥) → f (r .0) ≤ f j
         keep h j l (inl e) = rw e h
         keep h j l (inr ne) = r .2 j (omega arith)
+
         take′ : (f (suc k) < f (r .0)) → (j : ℕ) → j ≤ suc k → (j ≡ suc k) ⊎ (j ≡ suc k → ⊥) → f (suc k) ≤ f j
         take′ h j l (inl e) = rw e (omega arith)
         take′ h j l (inr ne) = omega (arith, r .2 j (omega arith))
+
         pick : (f (suc k) < f (r .0)) ⊎ (f (r .0) ≤ f (suc k)) → (s : ℕ) × (s ≤ suc k) × ((j : ℕ) → j ≤ suc k → f s ≤ f j)
         pick (inl h) = (suc k, omega arith, λ j l. take′ h j l (cases-eq j (suc k)))
         pick (inr h) = (r .0, omega (arith, r .1), λ j l. keep h j l (cases-eq j (suc k)))
@@ -72,6 +74,7 @@ module _ (p : Plan) (sound : Sound p) (us : List ℕ) (o : IsOrder (p .size) us)
         clash : (s x y : ℕ) → s < k → x < k → y < k → (s ≡ x → ⊥) → (s ≡ y → ⊥) → ((j : ℕ) → j ≤ k - 1 → place us (r s) ≤ place us (r j)) → p .joins (r s) (r x) ≡ true → p .joins (r s) (r y) ≡ true → x < y → p .joins (r x) (r y) ≡ false → ⊥
         clash s x y a b c sx sy low jx jy l f =
             both-ways _ f (perfect (r s) (r x) (r y) jx jy (later s x a b sx (low x (omega arith))) (later s y a c sy (low y (omega arith))) (h .once x y l c))
+
         go : (s : ℕ) × (s ≤ k - 1) × ((j : ℕ) → j ≤ k - 1 → place us (r s) ≤ place us (r j)) → ⊥
         go q = at (q .0) (q .1) (q .2) (cases-eq (q .0) 0) (cases-eq (q .0 + 1) k)
           where

@@ -52,14 +52,13 @@ module _ (p : Plan) (k : ℕ) (r : ℕ → ℕ) (h : Round (p .joins) k r) where
           let f : j + 1 ≡ k = omega arith in
           rw e (h .close j f ∙ sym (beside-close k j f))
 
+  -- a list that reads as the ring
+  pub ring-from-reads : (vs : List ℕ) → length vs ≡ k → ((i : ℕ) → i < k → getD vs i 0 ≡ r i) → Ring p vs
+  ring-from-reads vs len at = record {
+    long = rw len (h .long);
+    once = λ i j l m e. let m′ : j < k = rw len at m in h .once i j l m′ (sym (at i (omega arith)) ∙ e ∙ at j m′);
+    round = λ i j l m. let m′ : j < k = rw len at m in rw len (ap₂ (p .joins) (at i (omega arith)) (at j m′) ∙ round-beside i j l m′);
+  }
+
   pub ring-of-round : Ring p (map r (counting 0 k))
-  ring-of-round =
-      let len : length (map r (counting 0 k)) ≡ k = length-map-counting r 0 k in
-      record {
-        long = rw len (h .long);
-        once = λ i j l m e. let m′ : j < k = rw len at m in h .once i j l m′ (sym (at i (omega arith)) ∙ e ∙ at j m′);
-        round = λ i j l m. let m′ : j < k = rw len at m in rw len (ap₂ (p .joins) (at i (omega arith)) (at j m′) ∙ round-beside i j l m′);
-      }
-    where
-      at : (i : ℕ) → i < k → getD (map r (counting 0 k)) i 0 ≡ r i
-      at i l = getD-map-counting r 0 k i i 0 l (omega arith)
+  ring-of-round = ring-from-reads (map r (counting 0 k)) (length-map-counting r 0 k) (λ i l. getD-map-counting r 0 k i i 0 l (omega arith))

@@ -21,10 +21,18 @@ short n ring scratch = ltb (length ring) n || ltb (length scratch) (2 * n)
 abbrev pub Behind : {A : Type 0} → ℕ → List A → List A → Type 0
 Behind {A} k before after = (i : ℕ) (d : A) → k ≤ i → getD after i d ≡ getD before i d
 
--- the answer k: 0 where the plan has no ring, and the ring list stays; else the list begins with a ring of k junctions, and stays behind it
+-- the ring list begins with a ring of k junctions, and stays behind it
+pub record Lists (p : Plan) (before : List Junction) (k : ℕ) (after : List Junction) : Type 0 where
+  pub long : 4 ≤ k
+  pub upto : k ≤ p .size
+  pub ring : Ring p (take k (numbers after))
+  pub listed : Listed (take k (numbers after))
+  pub behind : Behind k before after
+
+-- the answer k: 0 where the plan has no ring, and the ring list stays; else the list begins with a ring of k junctions
 pub record Found (p : Plan) (before : List Junction) (k : ℕ) (after : List Junction) : Type 0 where
   pub none : k ≡ 0 → NoRing p × (after ≡ before)
-  pub some : (k ≡ 0 → ⊥) → (k ≤ p .size) × Ring p (take k (numbers after)) × Listed (take k (numbers after)) × Behind k before after
+  pub some : (k ≡ 0 → ⊥) → Lists p before k after
 
 abbrev pub FindRing : Plan → Result ℕ Refusal → List Junction → List ℕ → List Junction → List ℕ → Type 0
 FindRing p (Ok k) ring scratch ring′ scratch′ = Found p ring k ring′ × Behind (2 * p .size) scratch scratch′

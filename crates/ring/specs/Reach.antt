@@ -22,6 +22,14 @@ pub record Open (p : Plan) (v w : ℕ) : Type 0 where
   pub upto : w ≤ p .size
   pub apart : p .joins v w ≡ false
 
+-- v's neighbours a and c, both above it and not joined to each other
+pub record Corner (p : Plan) (v a c : ℕ) : Type 0 where
+  pub above : v < a
+  pub between : a < c
+  pub near : p .joins v a ≡ true
+  pub far : p .joins v c ≡ true
+  pub open′ : p .joins a c ≡ false
+
 -- the queue q of so many junctions, a first, with the marks m
 pub record Queue (p : Plan) (v a size : ℕ) (q m : ℕ → ℕ) : Type 0 where
   pub some : 1 ≤ size

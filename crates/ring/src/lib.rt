@@ -4,4 +4,8 @@
 //! breadth-first search from a, through junctions above v that are not joined to v, reaches a
 //! junction that is joined to the other neighbour, c.
 
+mod find;
+mod list;
 mod reach;
+
+pub use find::find_ring;

@@ -47,7 +47,11 @@ pub impl fmt::Display for Listing<'_> as ListingDisplay {
 }
 
 // Writes the first k junctions of a list, each after a blank.
-fn write_junctions<W: fmt::Write>(f: &mut fmt::Formatter<W>, list: &[Junction], k: u16) -> fmt::Result {
+fn write_junctions<W: fmt::Write>(
+    f: &mut fmt::Formatter<W>,
+    list: &[Junction],
+    k: u16,
+) -> fmt::Result {
     for j in list.iter().take(k as usize) {
         let v = j.0;
         write!(f, " {v}")?;

@@ -7,5 +7,10 @@ use plan::Junction;
 pub trait Listener {
     type Error;
 
-    fn hear(&mut self, answer: Answer, places: &[Junction], ring: &[Junction]) -> Result<(), Self::Error>;
+    fn hear(
+        &mut self,
+        answer: Answer,
+        places: &[Junction],
+        ring: &[Junction],
+    ) -> Result<(), Self::Error>;
 }

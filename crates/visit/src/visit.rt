@@ -48,14 +48,27 @@ pub fn visit<M: Maker, L: Listener>(
     match open_set(sheet, maker, listener)? {
         Opened::Made(set, rest) => {
             let mut set = set;
-            run_calls(&mut set, rest, listener, places, ring, rows, labels, scratch)
+            run_calls(
+                &mut set,
+                rest,
+                listener,
+                places,
+                ring,
+                rows,
+                labels,
+                scratch,
+            )
         }
         Opened::Ended => Ok(()),
     }
 }
 
 // Reads lines until one makes a set; every other is no call.
-fn open_set<'a, M: Maker, L: Listener>(sheet: &'a [u8], maker: &mut M, listener: &mut L) -> Result<Opened<'a, M::Made>, L::Error> {
+fn open_set<'a, M: Maker, L: Listener>(
+    sheet: &'a [u8],
+    maker: &mut M,
+    listener: &mut L,
+) -> Result<Opened<'a, M::Made>, L::Error> {
     let mut rest = sheet;
     while !rest.is_empty() {
         let (line, next) = next_line(rest);
@@ -115,8 +128,24 @@ fn carry_out<R: Register>(
         Call::Cut(v, w) => done(set.cut(v, w)),
         Call::Shut(v) => done(set.shut(v)),
         Call::Open(v) => done(set.open(v)),
-        Call::OrderLexicographic => ordered(set, Either::First(Lexicographic), places, ring, rows, labels, scratch),
-        Call::OrderCounting => ordered(set, Either::Second(Counting), places, ring, rows, labels, scratch),
+        Call::OrderLexicographic => ordered(
+            set,
+            Either::First(Lexicographic),
+            places,
+            ring,
+            rows,
+            labels,
+            scratch,
+        ),
+        Call::OrderCounting => ordered(
+            set,
+            Either::Second(Counting),
+            places,
+            ring,
+            rows,
+            labels,
+            scratch,
+        ),
     }
 }
 

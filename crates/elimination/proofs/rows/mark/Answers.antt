@@ -1,5 +1,3 @@
-use mathlib.Core.Path.{_≡_}
-use lib.ListN.{length}
 use native.Mathlib.Omega.{arith}
 use Rattle.bitset.specs.Bits.{Inserted}
 use Rattle.elimination.proofs.Marked.{number, marks-both}

@@ -1,5 +1,4 @@
 use native.Mathlib.Omega.{arith}
-use Prim.Native.Nat.{_≤_}
 use Rattle.elimination.specs.Rows.{at}
 use Rattle.elimination.proofs.Neighbours.{known-inside, earliest-none, earliest-inside}
 use Rattle.elimination.proofs.step.earliest.Needs as need

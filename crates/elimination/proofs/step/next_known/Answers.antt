@@ -1,6 +1,4 @@
 use native.Mathlib.Omega.{arith}
-use mathlib.Core.Path.{_≡_}
-use Prim.Native.Nat.{_≤_}
 use Rattle.std.specs.declared.option.Option.the-variants.{None}
 use Rattle.plan.specs.Plans.{NextNeighbour}
 use Rattle.elimination.specs.Rows.{marked, known}

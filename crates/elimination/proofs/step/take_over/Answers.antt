@@ -1,6 +1,5 @@
 use native.Mathlib.Omega.{arith}
-use mathlib.Core.Path.{_≡_}
-use Prim.Native.Nat.{_≤_, _<_}
+use Prim.Native.Nat.{_≤_}
 use Rattle.elimination.specs.Rows.{found, at}
 use Rattle.elimination.proofs.Parents.{pairs-few, taking-none, own-inside, taking-early, taking-same, taking-kept, taking-joined, takes-over}
 use Rattle.elimination.proofs.step.take_over.Needs as need
