@@ -16,7 +16,8 @@ use Rattle.plan.specs.Refusals.Verdict.{carried}
 use Rattle.plan.proofs.Counts.{pairs-same}
 use Rattle.plan.proofs.Orders.{IsOrder, place-at}
 use Rattle.elimination.specs.Elimination.{fill}
-use Rattle.elimination.specs.Rows.{marked, found, Places, Table, Eliminates, Fills, fill-verdict, at}
+use Rattle.elimination.specs.Rows.{Fills, fill-verdict}
+use Rattle.elimination.specs.Steps.{marked, found, Places, Table, Eliminates, at}
 use Rattle.elimination.proofs.Counting.{no-pairs}
 use Rattle.elimination.proofs.Laws.{plan-simple}
 use Rattle.elimination.proofs.Marked.{marked-holds, word-of-number, bit-of-number}

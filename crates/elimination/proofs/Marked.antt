@@ -15,7 +15,7 @@ use Rattle.std.proofs.shelf.Ways.{tells}
 use Rattle.bitset.specs.Bits.{holds, Inserted, NextHeld}
 use Rattle.bitset.proofs.Held.{held-below, none-held}
 use Rattle.plan.specs.Registers.{same-pair}
-use Rattle.elimination.specs.Rows.{marked, Marks, NextIn}
+use Rattle.elimination.specs.Steps.{marked, Marks, NextIn}
 
 -- the number that stands for w in the row of v
 abbrev pub number : ℕ → ℕ → ℕ

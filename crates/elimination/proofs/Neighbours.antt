@@ -3,18 +3,18 @@ use mathlib.Core.Path.{_≡_, refl, sym, _∙_}
 use mathlib.Core.Bool.{Bool, true, false, _&&_, _||_}
 use mathlib.Core.List.{List}
 use mathlib.Core.Logic.{_⊎_, inl, inr}
-use Prim.Native.Nat.{ℕ, _≤_, _<_}
+use Prim.Native.Nat.{ℕ, min, _≤_, _<_}
 use native.Mathlib.Omega.{arith}
 use lib.Dec.{leb}
 use Rattle.std.specs.declared.option.Option.{Option}
 use Rattle.std.specs.declared.option.Option.the-variants.{Some, None}
-use Rattle.std.proofs.shelf.Tests.{or-cases, or-left, or-right, or-from}
+use Rattle.std.proofs.shelf.Tests.{cases-lt, or-cases, or-left, or-right, or-from}
 use Rattle.std.specs.Options.{Cases}
 use Rattle.std.proofs.shelf.Ways.{tells}
 use Rattle.plan.specs.Plans.{Plan, Sound}
 use Rattle.plan.specs.Registers.{same-pair}
 use Rattle.plan.specs.declared.number.Junction.{Junction}
-use Rattle.elimination.specs.Rows.{marked, found, known, Marks, Joins, NextIn}
+use Rattle.elimination.specs.Steps.{marked, found, known, Marks, Joins, NextIn}
 use Rattle.elimination.proofs.Marked.{marked-parts}
 
 pub found-marked : (n : ℕ) (rows : List ℕ) (v w : ℕ) → v ≤ n → found n rows v w ≡ marked rows v w
@@ -42,9 +42,16 @@ module _ (t s k : ℕ → Bool) (is : (x : ℕ) → k x ≡ (t x || s x)) (w : �
   next-left a h none =
       (h .0, is (a .0) ∙ or-left (t (a .0)) (s (a .0)) (h .1), λ x l m. is x ∙ or-from (t x) (s x) (h .2 x l m) (none x l m))
 
-  pub next-right : (a : Junction) → NextIn s w (Some a) → ((x : ℕ) → w < x → x < a .0 → t x ≡ false) → NextIn k w (Some a)
+  next-right : (a : Junction) → NextIn s w (Some a) → ((x : ℕ) → w < x → x < a .0 → t x ≡ false) → NextIn k w (Some a)
   next-right a h none =
       (h .0, is (a .0) ∙ or-right (t (a .0)) (s (a .0)) (h .1), λ x l m. is x ∙ or-from (t x) (s x) (none x l m) (h .2 x l m))
+
+  pub next-lower : (a b : Junction) → NextIn t w (Some a) → NextIn s w (Some b) → NextIn k w (Some (record { 0 = min (a .0) (b .0) }))
+  next-lower a b h i = go (cases-lt (a .0) (b .0))
+    where
+      go : (a .0 < b .0) ⊎ (b .0 ≤ a .0) → NextIn k w (Some (record { 0 = min (a .0) (b .0) }))
+      go (inl l) = let e : min (a .0) (b .0) ≡ a .0 = omega arith in rw e (next-left a h (λ x m n. i .2 x m (omega arith)))
+      go (inr l) = let e : min (a .0) (b .0) ≡ b .0 = omega arith in rw e (next-right b i (λ x m n. h .2 x m (omega arith)))
 
   pub next-rest : (r : Option Junction) → NextIn t w None → NextIn s w r → NextIn k w r
   next-rest None h i = λ u l. is u ∙ or-from (t u) (s u) (h u l) (i u l)

@@ -15,7 +15,7 @@ use Rattle.plan.specs.Plans.{Plan, Sound, pairs}
 use Rattle.plan.specs.Registers.{same-pair}
 use Rattle.plan.specs.declared.number.Junction.{Junction}
 use Rattle.plan.proofs.Counts.{pairs-same, pairs-more, pairs-le}
-use Rattle.elimination.specs.Rows.{found, known, Joins, Table, NextIn, takes, taken, TakesOver, Eliminates}
+use Rattle.elimination.specs.Steps.{found, known, Joins, Table, NextIn, takes, taken, TakesOver, Eliminates}
 use Rattle.elimination.proofs.Neighbours.{found-parts, known-inside}
 use Rattle.elimination.proofs.Takeover.{takes-parts, takes-from, taken-cases}
 

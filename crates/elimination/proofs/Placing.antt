@@ -10,7 +10,7 @@ use Rattle.std.proofs.shelf.Lists.{length-set, length-replicate, getD-replicate
 use Rattle.std.proofs.shelf.Tests.{cases-eq, cases-lt, cases-bool}
 use Rattle.plan.specs.Orders.{ordered, place}
 use Rattle.plan.proofs.Orders.{IsOrder, order-of, ordered-from-each, place-at}
-use Rattle.elimination.specs.Rows.{Places}
+use Rattle.elimination.specs.Steps.{Places}
 
 -- the first i entries are different junctions of 1 to n with their places in the table, which is 0 elsewhere
 pub record Located (n : ℕ) (us : List ℕ) (i : ℕ) (places : List ℕ) : Type 0 where

@@ -11,7 +11,7 @@ use Rattle.std.proofs.shelf.Ways.{tells}
 use Rattle.plan.specs.Orders.{place}
 use Rattle.plan.proofs.Orders.{IsOrder, at-place, place-apart}
 use Rattle.elimination.specs.Elimination.{fill, filled}
-use Rattle.elimination.specs.Rows.{takes, taken}
+use Rattle.elimination.specs.Steps.{takes, taken}
 use Rattle.elimination.proofs.Filled.{Simple, fill-alike, fill-no-pipe, filled-pipe, filled-fill, filled-cases, filled-closed, filled-least}
 
 -- the pairs of g and those of m

@@ -52,11 +52,11 @@ pub record WorkedPlans : Type 0 where
   pub ring-of-five-cells : cells (plan-of 5 ring-of-five) (4 ∷ 3 ∷ 5 ∷ 2 ∷ 1 ∷ []) ≡ 7
   pub not-an-order : fill-verdict 3 (1 ∷ 1 ∷ 3 ∷ []) 24 ≡ refused 9 []
 
--- perfect: for every junction, its neighbours at later places are joined pairwise
+-- a perfect elimination order: for every junction, its neighbours at later places are joined pairwise
 abbrev pub Perfect : (ℕ → ℕ → Bool) → List ℕ → Type 0
 Perfect g us = (v a b : ℕ) → g v a ≡ true → g v b ≡ true → place us v < place us a → place us v < place us b → (a ≡ b → ⊥) → g a b ≡ true
 
--- an order has no fill exactly where it is perfect, and its count of fill pairs is then 0
+-- an order has no fill, and its fill pairs number 0, exactly where it is perfect
 abbrev pub NoFillLaw : Type 0
 NoFillLaw = (p : Plan) → Sound p → (us : List ℕ) → (((v w : ℕ) → fill (p .joins) us v w ≡ false) ↔ Perfect (p .joins) us) × ((pairs (fill (p .joins) us) (p .size) ≡ 0) ↔ Perfect (p .joins) us)
 

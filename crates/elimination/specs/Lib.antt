@@ -1,3 +1,4 @@
 pub mod Elimination
 pub mod Laws
 pub mod Rows
+pub mod Steps

@@ -5,7 +5,7 @@ ghost use Prim.Native.Nat.{_≤_};
 ghost use lib.ListN.{length};
 ghost use Rattle.std.specs.Options.{Cases};
 ghost use Rattle.plan.specs.Orders.{numbers, ordered};
-ghost use Rattle.elimination.specs.Rows.{Places};
+ghost use Rattle.elimination.specs.Steps.{Places};
 use plan::Junction;
 
 /// The place of each junction v at index v − 1, or `None` where the list is no order of n

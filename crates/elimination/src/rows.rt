@@ -2,7 +2,7 @@
 ghost use mathlib.Core.Path.{_≡_};
 ghost use Prim.Native.Nat.{ℕ, _+_, _-_, _*_, _<_, _≤_};
 ghost use lib.ListN.{length, getD};
-ghost use Rattle.elimination.specs.Rows.{marked, Marks, NextIn};
+ghost use Rattle.elimination.specs.Steps.{marked, Marks, NextIn};
 use plan::Junction;
 
 /// The words of one row.

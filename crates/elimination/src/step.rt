@@ -4,7 +4,7 @@ ghost use mathlib.Core.Path.{_≡_};
 ghost use Prim.Native.Nat.{_*_, _<_, _≤_};
 ghost use lib.ListN.{length};
 ghost use Rattle.std.specs.Options.{Cases};
-ghost use Rattle.elimination.specs.Rows.{known, at, NextIn, Table, Earliest, Joins, Adds, TakesOver, Eliminates, earlier-of};
+ghost use Rattle.elimination.specs.Steps.{known, at, NextIn, Table, Earliest, Joins, Adds, TakesOver, Eliminates, earlier-of};
 use crate::rows::is_marked;
 use crate::rows::mark;
 use crate::rows::next_marked;
@@ -25,7 +25,7 @@ fn next_known<P: ReadablePlan>(plan: &P, rows: &[u64], v: Junction, w: Junction)
     ensures { λ r. ⌜ NextIn (known (meaning (now (plan .entry))) (now (rows .entry)) (v .0)) (w .0) r ⌝ }
 {
     match (plan.next(v, w), next_marked(rows, v, w)) {
-        (Some(a), Some(b)) => { if a.0 < b.0 { Some(a) } else { Some(b) } }
+        (Some(a), Some(b)) => Some(Junction(a.0.min(b.0))),
         (Some(a), None) => Some(a),
         (None, b) => b,
     }

@@ -15,27 +15,8 @@ use Rattle.elimination.specs.Laws.{Perfect}
 use Rattle.elimination.proofs.Laws.{no-fill-law}
 use Rattle.ring.specs.Rings.{Ring, NoRing}
 use Rattle.ring.proofs.Rounds.{Round, round-of-ring, ring-of-round}
+use Rattle.ring.proofs.Turning.{lowest}
 use Rattle.order.proofs.Bridges.{Witness, round-from-later}
-
--- an index below k at which f is least
-lowest : (f : ℕ → ℕ) (k : ℕ) → (s : ℕ) × (s ≤ k) × ((j : ℕ) → j ≤ k → f s ≤ f j)
-lowest f zero = (0, omega arith, λ j h. let e : j ≡ 0 = omega arith in rw e (omega arith))
-lowest f (suc k) = go (lowest f k)
-  where
-    go : (s : ℕ) × (s ≤ k) × ((j : ℕ) → j ≤ k → f s ≤ f j) → (s : ℕ) × (s ≤ suc k) × ((j : ℕ) → j ≤ suc k → f s ≤ f j)
-    go r = pick (cases-lt (f (suc k)) (f (r .0)))
-      where
-        keep : (f (r .0) ≤ f (suc k)) → (j : ℕ) → j ≤ suc k → (j ≡ suc k) ⊎ (j ≡ suc k → ⊥) → f (r .0) ≤ f j
-        keep h j l (inl e) = rw e h
-        keep h j l (inr ne) = r .2 j (omega arith)
-
-        take′ : (f (suc k) < f (r .0)) → (j : ℕ) → j ≤ suc k → (j ≡ suc k) ⊎ (j ≡ suc k → ⊥) → f (suc k) ≤ f j
-        take′ h j l (inl e) = rw e (omega arith)
-        take′ h j l (inr ne) = omega (arith, r .2 j (omega arith))
-
-        pick : (f (suc k) < f (r .0)) ⊎ (f (r .0) ≤ f (suc k)) → (s : ℕ) × (s ≤ suc k) × ((j : ℕ) → j ≤ suc k → f s ≤ f j)
-        pick (inl h) = (suc k, omega arith, λ j l. take′ h j l (cases-eq j (suc k)))
-        pick (inr h) = (r .0, omega (arith, r .1), λ j l. keep h j l (cases-eq j (suc k)))
 
 module _ (p : Plan) (sound : Sound p) (us : List ℕ) (o : IsOrder (p .size) us) where
   -- an end of a pipe is a junction

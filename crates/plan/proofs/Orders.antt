@@ -283,3 +283,22 @@ module _ (n : ℕ) (us : List ℕ) (o : IsOrder n us) where
 
   pub place-apart : (v w : ℕ) → 1 ≤ v → v ≤ n → 1 ≤ w → w ≤ n → place us v ≡ place us w → v ≡ w
   place-apart v w a b c d e = sym (at-place v a b .2) ∙ ap (λ k. getD us (k - 1) 0) e ∙ at-place w c d .2
+
+-- a place of the list names what stands there
+pub place-reads : (us : List ℕ) (v : ℕ) → place us v ≤ length us → getD us (place us v - 1) 0 ≡ v
+place-reads [] v h = absurd (omega arith)
+place-reads (u ∷ us) v h = go (cases-eq u v) (λ l. place-reads us v l)
+  where
+    step : (k : ℕ) → 1 ≤ k → getD us (k - 1) 0 ≡ v → getD (u ∷ us) (suc k - 1) 0 ≡ v
+    step zero l r = absurd (omega arith)
+    step (suc j) l r =
+        let e : suc (suc j) - 1 ≡ suc j = omega arith in
+        let f : suc j - 1 ≡ j = omega arith in
+        rw e (rw f at r)
+
+    go : (u ≡ v) ⊎ (u ≡ v → ⊥) → (place us v ≤ length us → getD us (place us v - 1) 0 ≡ v) → getD (u ∷ us) (place (u ∷ us) v - 1) 0 ≡ v
+    go (inl e) rest = let t : eqb u v ≡ true = eq-eqb u v e in rw t e
+    go (inr ne) rest =
+        let t : eqb u v ≡ false = ne-eqb u v ne in
+        let l : suc (place us v) ≤ suc (length us) = rw t at h in
+        rw t (step (place us v) (place-pos us v) (rest (omega arith)))

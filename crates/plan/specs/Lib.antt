@@ -1,3 +1,4 @@
+pub mod Memory
 pub mod Orders
 pub mod Plans
 pub mod Refusals

@@ -14,7 +14,7 @@ use Rattle.std.specs.declared.option.Option.the-variants.{Some, None}
 use Rattle.plan.specs.Plans.{Plan, Sound, NextNeighbour, count}
 use Rattle.plan.specs.declared.number.Junction.{Junction}
 use Rattle.plan.proofs.Counts.{count-le, count-more}
-use Rattle.ring.specs.Calls.{Behind}
+use Rattle.plan.specs.Memory.{KeptFrom}
 use Rattle.ring.specs.Reach.{queue, mark, Open, Queue, Spread}
 
 -- the walk over the neighbours of u, the junction at `head`, has come to `last`
@@ -26,7 +26,7 @@ pub record Walked (p : Plan) (v a head u size now′ last : ℕ) (s₀ s : List 
   pub grown : Queue p v a now′ (queue s) (mark (p .size) s)
   pub done : Spread p v head (queue s) (mark (p .size) s)
   pub here : (w : ℕ) → w ≤ last → Open p v w → p .joins u w ≡ true → mark (p .size) s w ≡ 0 → ⊥
-  pub behind : Behind (2 * p .size) s₀ s
+  pub behind : KeptFrom (2 * p .size) s₀ s
 
 module _ (p : Plan) (v a size : ℕ) (q m : ℕ → ℕ) (h : Queue p v a size q m) where
   -- a junction that is not marked is not in the queue

@@ -12,7 +12,8 @@ use Rattle.plan.specs.Orders.{numbers}
 use Rattle.plan.specs.Plans.{Plan, Sound}
 use Rattle.plan.specs.declared.number.Junction.{Junction}
 use Rattle.plan.proofs.Numbers.{getD-numbers, length-numbers}
-use Rattle.ring.specs.Calls.{Behind, Lists}
+use Rattle.plan.specs.Memory.{KeptFrom}
+use Rattle.ring.specs.Calls.{Lists}
 use Rattle.ring.specs.Reach.{Corner, Queue, back}
 use Rattle.ring.specs.Rings.{Ring, Listed}
 use Rattle.ring.proofs.Closing.{Closes, ringed, ringed-path, ringed-last, ring-round, ring-lowest, ring-towards, ring-fits}

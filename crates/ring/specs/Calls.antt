@@ -4,11 +4,12 @@ use mathlib.Core.Bool.{Bool, _||_}
 use mathlib.Core.List.{List}
 use Prim.Native.Nat.{ℕ, _*_, _≤_}
 use lib.Dec.{ltb}
-use lib.ListN.{length, getD, take}
+use lib.ListN.{length, take}
 use Rattle.std.specs.declared.result.Result.{Result}
 use Rattle.std.specs.declared.result.Result.the-variants.{Ok, Err}
 use Rattle.plan.specs.declared.number.Junction.{Junction}
 use Rattle.plan.specs.declared.refusal.Refusal.{Refusal}
+use Rattle.plan.specs.Memory.{KeptFrom}
 use Rattle.plan.specs.Orders.{numbers}
 use Rattle.plan.specs.Plans.{Plan}
 use Rattle.ring.specs.Rings.{Ring, Listed, NoRing}
@@ -17,17 +18,13 @@ use Rattle.ring.specs.Rings.{Ring, Listed, NoRing}
 abbrev pub short : ℕ → List Junction → List ℕ → Bool
 short n ring scratch = ltb (length ring) n || ltb (length scratch) (2 * n)
 
--- the entries from index k on are as before
-abbrev pub Behind : {A : Type 0} → ℕ → List A → List A → Type 0
-Behind {A} k before after = (i : ℕ) (d : A) → k ≤ i → getD after i d ≡ getD before i d
-
 -- the ring list begins with a ring of k junctions, and stays behind it
 pub record Lists (p : Plan) (before : List Junction) (k : ℕ) (after : List Junction) : Type 0 where
   pub long : 4 ≤ k
   pub upto : k ≤ p .size
   pub ring : Ring p (take k (numbers after))
   pub listed : Listed (take k (numbers after))
-  pub behind : Behind k before after
+  pub behind : KeptFrom k before after
 
 -- the answer k: 0 where the plan has no ring, and the ring list stays; else the list begins with a ring of k junctions
 pub record Found (p : Plan) (before : List Junction) (k : ℕ) (after : List Junction) : Type 0 where
@@ -35,5 +32,5 @@ pub record Found (p : Plan) (before : List Junction) (k : ℕ) (after : List Jun
   pub some : (k ≡ 0 → ⊥) → Lists p before k after
 
 abbrev pub FindRing : Plan → Result ℕ Refusal → List Junction → List ℕ → List Junction → List ℕ → Type 0
-FindRing p (Ok k) ring scratch ring′ scratch′ = Found p ring k ring′ × Behind (2 * p .size) scratch scratch′
+FindRing p (Ok k) ring scratch ring′ scratch′ = Found p ring k ring′ × KeptFrom (2 * p .size) scratch scratch′
 FindRing p (Err e) ring scratch ring′ scratch′ = (ring′ ≡ ring) × (scratch′ ≡ scratch)

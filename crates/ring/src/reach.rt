@@ -7,7 +7,7 @@ ghost use mathlib.Core.Path.{_≡_};
 ghost use mathlib.Core.Bool.{true};
 ghost use Prim.Native.Nat.{ℕ, _+_, _*_, _<_, _≤_};
 ghost use lib.ListN.{length, getD};
-ghost use Rattle.ring.specs.Calls.{Behind};
+ghost use Rattle.plan.specs.Memory.{KeptFrom};
 ghost use Rattle.ring.specs.Reach.{queue, mark, Queue, Spread, Meets};
 use plan::Junction;
 use plan::ReadablePlan;
@@ -24,7 +24,7 @@ pub(crate) fn reach<P: ReadablePlan>(
     requires above { ⌜ v .0 < a .0 ⌝ ∗ ⌜ meaning (now plan) .joins (v .0) (a .0) ≡ true ⌝ }
     ensures queue { λ r. ⌜ Queue (meaning (now (plan .entry))) (v .0) (a .0) r (queue (now (scratch .exit))) (mark (meaning (now (plan .entry)) .size) (now (scratch .exit))) ⌝ }
     ensures spread { λ r. ⌜ Spread (meaning (now (plan .entry))) (v .0) r (queue (now (scratch .exit))) (mark (meaning (now (plan .entry)) .size) (now (scratch .exit))) ⌝ }
-    ensures behind { λ _. ⌜ Behind (2 * meaning (now (plan .entry)) .size) (now (scratch .entry)) (now (scratch .exit)) ⌝ }
+    ensures behind { λ _. ⌜ KeptFrom (2 * meaning (now (plan .entry)) .size) (now (scratch .entry)) (now (scratch .exit)) ⌝ }
 {
     let n = plan.size() as usize;
     start(n, a, scratch);
@@ -44,7 +44,7 @@ fn start(n: usize, a: Junction, scratch: &mut [u16])
     ensures first { λ _. ⌜ queue (now (scratch .exit)) 0 ≡ a .0 ⌝ }
     ensures marked { λ _. ⌜ mark n (now (scratch .exit)) (a .0) ≡ 1 ⌝ }
     ensures others { λ _. ⌜ ((w : ℕ) → 1 ≤ w → w ≤ n → (w ≡ a .0 → ⊥) → mark n (now (scratch .exit)) w ≡ 0) ⌝ }
-    ensures behind { λ _. ⌜ Behind (2 * n) (now (scratch .entry)) (now (scratch .exit)) ⌝ }
+    ensures behind { λ _. ⌜ KeptFrom (2 * n) (now (scratch .entry)) (now (scratch .exit)) ⌝ }
 {
     for i in 0..n {
         scratch[n + i] = 0;
@@ -68,7 +68,7 @@ fn spread<P: ReadablePlan>(
     ensures grows { λ r. ⌜ size ≤ r ⌝ }
     ensures queue { λ r. ⌜ Queue (meaning (now (plan .entry))) (v .0) (queue (now (scratch .entry)) 0) r (queue (now (scratch .exit))) (mark (meaning (now (plan .entry)) .size) (now (scratch .exit))) ⌝ }
     ensures spread { λ _. ⌜ Spread (meaning (now (plan .entry))) (v .0) (head + 1) (queue (now (scratch .exit))) (mark (meaning (now (plan .entry)) .size) (now (scratch .exit))) ⌝ }
-    ensures behind { λ _. ⌜ Behind (2 * meaning (now (plan .entry)) .size) (now (scratch .entry)) (now (scratch .exit)) ⌝ }
+    ensures behind { λ _. ⌜ KeptFrom (2 * meaning (now (plan .entry)) .size) (now (scratch .entry)) (now (scratch .exit)) ⌝ }
 {
     let n = plan.size() as usize;
     let u = Junction(scratch[head]);

@@ -7,7 +7,7 @@ use native.Mathlib.Omega.{arith}
 use lib.ListN.{length, getD, set}
 use lib.Seq.{getD-set-same, getD-set-other}
 use Rattle.std.proofs.shelf.Tests.{cases-eq}
-use Rattle.search.specs.Memory.{KeptFrom}
+use Rattle.plan.specs.Memory.{KeptFrom}
 
 -- what holds of the entries below i, and of the one put at i, holds of the entries up to i
 pub filled-more : {A : Type 0} (P : ℕ → A → Type 0) (d : A) (xs : List A) (i : ℕ) (x : A) → i < length xs → ((k : ℕ) → k < i → P k (getD xs k d)) → P i x → (k : ℕ) → k < i + 1 → P k (getD (set xs i x) k d)

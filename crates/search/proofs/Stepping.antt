@@ -16,7 +16,7 @@ use Rattle.std.specs.declared.cmp.Ordering.{Ordering}
 use Rattle.std.specs.Holes.{exchanged}
 use Rattle.plan.specs.declared.number.Junction.{Junction}
 use Rattle.plan.specs.Plans.{Plan}
-use Rattle.search.specs.Memory.{KeptFrom}
+use Rattle.plan.specs.Memory.{KeptFrom}
 use Rattle.search.specs.Rule.{label, outranks}
 use Rattle.search.specs.Working.{at, Chosen, RaisedBy}
 use Rattle.search.proofs.Going.{Going, listed, listed-at, length-listed}

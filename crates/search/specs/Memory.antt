@@ -2,19 +2,16 @@
 use mathlib.Core.Path.{_≡_}
 use mathlib.Core.Bool.{Bool, _||_}
 use mathlib.Core.List.{List}
-use Prim.Native.Nat.{ℕ, _*_, _≤_}
+use Prim.Native.Nat.{ℕ, _*_}
 use lib.Dec.{ltb}
-use lib.ListN.{length, getD, take}
+use lib.ListN.{length, take}
 use Rattle.std.specs.declared.cmp.Ordering.{Ordering}
 use Rattle.plan.specs.declared.number.Junction.{Junction}
+use Rattle.plan.specs.Memory.{KeptFrom}
 use Rattle.plan.specs.Orders.{numbers}
 use Rattle.plan.specs.Plans.{Plan}
 use Rattle.plan.specs.Refusals.{Verdict, carried, refused}
 use Rattle.search.specs.Rule.{Searched}
-
--- the entries from index n on are as before
-abbrev pub KeptFrom : {A : Type 0} → ℕ → List A → List A → Type 0
-KeptFrom {A} n before after = (k : ℕ) (d : A) → n ≤ k → getD after k d ≡ getD before k d
 
 -- memory is short: fewer than n places, n labels or 2 n entries of scratch
 abbrev pub short : {L : Type 0} → ℕ → List Junction → List L → List ℕ → Bool

@@ -1,5 +1,5 @@
 use native.Mathlib.Omega.{arith}
-use Rattle.elimination.specs.Rows.{at}
+use Rattle.elimination.specs.Steps.{at}
 use Rattle.elimination.proofs.Neighbours.{known-inside, earliest-none, earliest-inside}
 use Rattle.elimination.proofs.step.earliest.Needs as need
 

@@ -1,5 +1,5 @@
 use Prim.Native.Nat.{_-_}
-use Rattle.elimination.specs.Rows.{known, at}
+use Rattle.elimination.specs.Steps.{known, at}
 use Rattle.elimination.proofs.Neighbours.{EarliestTo}
 use Rattle.elimination.proofs.step.earliest.Given as given
 

@@ -1,5 +1,5 @@
 use native.Mathlib.Omega.{arith}
-use Rattle.elimination.specs.Rows.{at}
+use Rattle.elimination.specs.Steps.{at}
 use Rattle.elimination.proofs.Parents.{known-size, eliminates-none}
 use Rattle.elimination.proofs.step.eliminate.Needs as need
 

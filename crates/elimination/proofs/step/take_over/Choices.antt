@@ -1,5 +1,5 @@
 use Prim.Native.Nat.{_-_}
-use Rattle.elimination.specs.Rows.{at}
+use Rattle.elimination.specs.Steps.{at}
 use Rattle.elimination.proofs.Parents.{Taking}
 use Rattle.elimination.proofs.step.take_over.Given as given
 

@@ -1,7 +1,7 @@
 use Prim.Native.Nat.{ℕ, _+_, _-_, _*_, _≤_, _<_}
 use mathlib.Core.Path.{_≡_}
 use mathlib.Core.Bool.{true}
-use Rattle.ring.specs.Calls.{Behind}
+use Rattle.plan.specs.Memory.{KeptFrom}
 use Rattle.ring.specs.Reach.{queue, mark, Queue, Spread}
 use Rattle.ring.proofs.Missing.{NoneAt}
 use Rattle.ring.proofs.find.find_ring.Given as given
@@ -11,7 +11,7 @@ Inv-search g l =
     let p = g .P·ReadablePlan .meaning (l .plan) in
     (l .found ≡ 0)
     × (l .ring ≡ l .entry .ring)
-    × Behind (2 * p .size) (l .entry .scratch) (l .scratch)
+    × KeptFrom (2 * p .size) (l .entry .scratch) (l .scratch)
     × ((v a c : ℕ) → 1 ≤ v → v ≤ l .i → NoneAt p v a c)
 
 abbrev pub Inv-loop-x : given.InvT-loop-x
@@ -19,7 +19,7 @@ Inv-loop-x g l =
     let p = g .P·ReadablePlan .meaning (l .plan) in
     (l .found ≡ 0)
     × (l .ring ≡ l .entry .ring)
-    × Behind (2 * p .size) (l .entry .scratch) (l .scratch)
+    × KeptFrom (2 * p .size) (l .entry .scratch) (l .scratch)
     × (l .v .0 ≤ l .a .0)
     × ((a c : ℕ) → a ≤ l .a .0 → NoneAt p (l .v .0) a c)
 

@@ -1,5 +1,5 @@
 use Prim.Native.Nat.{_*_, _-_, _≤_}
-use Rattle.ring.specs.Calls.{Behind}
+use Rattle.plan.specs.Memory.{KeptFrom}
 use Rattle.ring.specs.Reach.{queue, mark, Queue, Spread}
 use Rattle.ring.proofs.reach.reach.Given as given
 
@@ -9,7 +9,7 @@ Inv-loop-head g l =
     (l .head ≤ l .size)
     × Queue p (l .v .0) (queue (l .entry .scratch) 0) (l .size) (queue (l .scratch)) (mark (p .size) (l .scratch))
     × Spread p (l .v .0) (l .head) (queue (l .scratch)) (mark (p .size) (l .scratch))
-    × Behind (2 * p .size) (l .entry .scratch) (l .scratch)
+    × KeptFrom (2 * p .size) (l .entry .scratch) (l .scratch)
 
 abbrev pub μ-loop-head : given.MeasureT-loop-head
 μ-loop-head g l = g .P·ReadablePlan .meaning (l .plan) .size - l .head

@@ -4,7 +4,7 @@ use Prim.Native.Nat.{ℕ, suc, _-_, _*_, _≤_}
 use native.Mathlib.Omega.{arith}
 use lib.ListN.{length}
 use Rattle.plan.specs.Plans.{Plan}
-use Rattle.search.specs.Memory.{KeptFrom}
+use Rattle.plan.specs.Memory.{KeptFrom}
 use Rattle.search.proofs.Filling.{kept-trans}
 use Rattle.search.proofs.Going.{Going, going-start, going-end}
 use Rattle.search.proofs.Stepping.{turn}

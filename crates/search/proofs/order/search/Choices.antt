@@ -1,4 +1,4 @@
-use Rattle.search.specs.Memory.{KeptFrom}
+use Rattle.plan.specs.Memory.{KeptFrom}
 use Rattle.search.proofs.Going.{Going}
 use Rattle.search.proofs.order.search.Given as given
 

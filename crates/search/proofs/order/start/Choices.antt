@@ -1,7 +1,7 @@
 use Prim.Native.Nat.{ℕ, _+_, _<_}
 use mathlib.Core.Path.{_≡_}
 use lib.ListN.{getD}
-use Rattle.search.specs.Memory.{KeptFrom}
+use Rattle.plan.specs.Memory.{KeptFrom}
 use Rattle.search.specs.Working.{at}
 use Rattle.search.proofs.order.start.Given as given
 
