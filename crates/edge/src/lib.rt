@@ -1,4 +1,10 @@
-//! The edge of a program: its input, from standard input or from the file that it is named.
+//! The edge of a program: its input, from standard input or from the file that it is named, and the
+//! memory that it hands to the library.
+ghost use mathlib.Core.Path.{_≡_};
+ghost use Rattle.std.specs.Of.Vec.{vec-len};
+ghost use Rattle.std.specs.Vec.{made};
+use std::alloc::AllocError;
+use std::alloc::Global;
 use std::env;
 use std::fs;
 use std::io;
@@ -19,4 +25,15 @@ pub fn read_input(rt: &LibcRuntime, limit: u64) -> io::Result<Vec<u8>> {
         }
     }
     Ok(bytes)
+}
+
+/// Memory of `count` entries, each the value.
+pub fn filled<T: Copy>(heap: Global, value: T, count: usize) -> Result<Vec<T>, AllocError>
+    ensures { λ r. ⌜ made r (λ v. vec-len v ≡ count) ⌝ }
+{
+    let mut entries = Vec::new(heap);
+    for _ in 0..count {
+        entries.push(value)?;
+    }
+    Ok(entries)
 }

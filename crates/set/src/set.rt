@@ -1,13 +1,18 @@
 //! The set and its calls.
 ghost use mathlib.Core.Path.{_≡_};
 ghost use mathlib.Core.Bool.{true, false};
-ghost use Rattle.plan.specs.Refusals.{heard, after};
+ghost use mathlib.Core.List.{[], _∷_};
+ghost use Rattle.plan.specs.Refusals.{heard, after, checked};
 ghost use Rattle.plan.specs.Registers.{join-verdict, cut-verdict};
+ghost use Rattle.order.specs.Reports.{OrderCall, short};
 ghost use Rattle.set.specs.Kept.{ledger};
 ghost use Rattle.set.specs.Ledgers.{opened, seen, with-joined, with-cut, with-shut, shut-checks, open-checks};
 use isolation::Isolation;
 use isolation::IsolationReadablePlan;
 use isolation::IsolationRegister;
+use label::Kind;
+use order::Report;
+use order::order;
 use plan::Junction;
 use plan::ReadablePlan;
 use plan::Refusal;
@@ -67,5 +72,22 @@ impl<R: Register> Set<R> {
         ensures ledger { λ r. ⌜ ledger (R·ReadablePlan .meaning) (R·Register .left) (now (self .exit)) ≡ after (heard r) (with-shut (ledger (R·ReadablePlan .meaning) (R·Register .left) (now (self .entry))) (v .0) false) (ledger (R·ReadablePlan .meaning) (R·Register .left) (now (self .entry))) ⌝ }
     {
         self.layer.open(v)
+    }
+
+    /// Finds the order in which the junctions in the set are eliminated, by a kind of label, with
+    /// its fill and a ring where it has any: see `order::order`. Turned down by 8 alone.
+    pub fn order<K: Kind>(
+        &self,
+        kind: &K,
+        places: &mut [Junction],
+        ring: &mut [Junction],
+        rows: &mut [u64],
+        labels: &mut [K::Label],
+        scratch: &mut [u16],
+    ) -> Result<Report, Refusal>
+        ensures verdict { λ r. ⌜ heard r ≡ checked ((short (ledger (R·ReadablePlan .meaning) (R·Register .left) (now (self .entry)) .base .size) (now (places .entry)) (now (ring .entry)) (now (rows .entry)) (now (labels .entry)) (now (scratch .entry)), 8) ∷ []) ⌝ }
+        ensures left { λ r. ⌜ OrderCall (K·Kind .blank (now (kind .entry))) (K·Kind .raised (now (kind .entry))) (K·Kind .compared (now (kind .entry))) (seen (ledger (R·ReadablePlan .meaning) (R·Register .left) (now (self .entry)))) r (now (places .entry)) (now (ring .entry)) (now (rows .entry)) (now (labels .entry)) (now (scratch .entry)) (now (places .exit)) (now (ring .exit)) (now (rows .exit)) (now (labels .exit)) (now (scratch .exit)) ⌝ }
+    {
+        order(&self.layer, kind, places, ring, rows, labels, scratch)
     }
 }

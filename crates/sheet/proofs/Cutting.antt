@@ -2,10 +2,10 @@
 use mathlib.Core.Path.{_≡_, refl, sym, ap, ap₂, _∙_}
 use mathlib.Core.Bool.{Bool, true, false, cond}
 use mathlib.Core.List.{List, [], _∷_, _++_}
-use Prim.Native.Nat.{ℕ, zero, suc, _≤_, _<_}
+use Prim.Native.Nat.{ℕ, zero, suc, _-_, _≤_, _<_}
 use native.Mathlib.Omega.{arith}
 use lib.Dec.{eqb}
-use lib.ListN.{length, getD, take, drop}
+use lib.ListN.{length, getD, take, drop, length-drop}
 use Rattle.std.proofs.shelf.Tests.{eq-eqb, ne-eqb}
 use Rattle.sheet.specs.Lines.{front, back}
 
@@ -48,3 +48,15 @@ front-all stop (b ∷ a) f =
     let h : (front stop a ≡ a) × (back stop a ≡ []) = front-all stop a (f .1) in
     let e : eqb b stop ≡ false = f .0 in
     (rw e (ap (λ xs. b ∷ xs) (h .0)), rw e (h .1))
+
+length-back : (stop : ℕ) (bs : List ℕ) → length (back stop bs) ≤ length bs
+length-back stop [] = omega arith
+length-back stop (b ∷ bs) = go (eqb b stop) (length-back stop bs)
+  where
+    go : (t : Bool) → length (back stop bs) ≤ length bs → length (cond t (b ∷ bs) (back stop bs)) ≤ suc (length bs)
+    go true h = omega arith
+    go false h = omega arith
+
+-- what is left behind a stop is shorter
+pub back-shorter : (stop : ℕ) (bs : List ℕ) → length (drop 1 (back stop bs)) ≤ length bs - 1
+back-shorter stop bs = simp length-drop (omega (arith, length-back stop bs))

@@ -1,6 +1,6 @@
 //! Lines of a sheet, each ended by byte 10, which the last may lack.
 ghost use mathlib.Core.Path.{_≡_};
-ghost use Prim.Native.Nat.{_≤_};
+ghost use Prim.Native.Nat.{_-_, _≤_};
 ghost use lib.ListN.{length, take, drop};
 ghost use Rattle.sheet.specs.Lines.{front, back};
 
@@ -31,6 +31,7 @@ pub(crate) fn split(bytes: &[u8], stop: u8) -> (&[u8], &[u8])
 pub fn next_line(sheet: &[u8]) -> (&[u8], &[u8])
     ensures line { λ r. ⌜ now (r .0) ≡ front 10 (now (sheet .entry)) ⌝ }
     ensures rest { λ r. ⌜ now (r .1) ≡ drop 1 (back 10 (now (sheet .entry))) ⌝ }
+    ensures shorter { λ r. ⌜ length (now (r .1)) ≤ length (now (sheet .entry)) - 1 ⌝ }
 {
     let (line, rest) = split(sheet, 10);
     if rest.is_empty() {

@@ -14,13 +14,14 @@ pub enum Answer {
 
 /// An answer with the places and the ring that an order wrote, as the lines of a listing: `ok`, or
 /// `no` and the number, or the three lines of an order.
-pub struct Listing<'a> {
+#[derive(Clone, Copy)]
+pub struct Listing<'a, 'b> {
     pub answer: Answer,
     pub places: &'a [Junction],
-    pub ring: &'a [Junction],
+    pub ring: &'b [Junction],
 }
 
-pub impl fmt::Display for Listing<'_> as ListingDisplay {
+pub impl fmt::Display for Listing<'_, '_> as ListingDisplay {
     fn fmt<W: fmt::Write>(&self, f: &mut fmt::Formatter<W>) -> fmt::Result {
         match self.answer {
             Answer::Done => writeln!(f, "ok"),

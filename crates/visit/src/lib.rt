@@ -3,14 +3,14 @@
 mod answer;
 mod listener;
 mod maker;
-mod visit;
+mod run;
 
 pub use answer::Answer;
 pub use answer::Listing;
 pub use answer::ListingDisplay;
 pub use listener::Listener;
 pub use maker::Maker;
-pub use visit::KindOfLabel;
-pub use visit::LabelOfVisit;
-pub use visit::SHEET_LIMIT;
-pub use visit::visit;
+pub use run::KindOfLabel;
+pub use run::LabelOfVisit;
+pub use run::SHEET_LIMIT;
+pub use run::visit;

@@ -2,6 +2,7 @@
 use bits::BitReadablePlan;
 use bits::BitRegister;
 use bits::BitRegisterRegister;
+use edge::filled;
 use edge::read_input;
 use label::Count;
 use label::EitherLabel;
@@ -18,6 +19,7 @@ use visit::SHEET_LIMIT;
 use visit::visit;
 
 // Makes bit registers, each in memory of its own.
+#[derive(Drop)]
 struct BitMaker {
     heap: Global,
 }
@@ -26,8 +28,7 @@ impl Maker for BitMaker as BitMakerMaker {
     type Made = BitRegister;
 
     fn make(&mut self, n: u16) -> Result<BitRegister, Refusal> {
-        let words = vec![in self.heap; 0; 8 * 512];
-        match words {
+        match filled(self.heap, 0, 8 * 512) {
             Ok(memory) => match BitRegister::new(n, memory) {
                 Ok(register) => Ok(register),
                 Err(turned) => Err(turned.refusal),
@@ -38,6 +39,7 @@ impl Maker for BitMaker as BitMakerMaker {
 }
 
 // Prints each answer.
+#[derive(Drop)]
 struct Printer<'a> {
     rt: &'a LibcRuntime,
 }
@@ -58,11 +60,11 @@ impl Listener for Printer<'_> as PrinterListener {
 fn main(rt: LibcRuntime) -> io::Result<()> {
     let heap = rt.alloc();
     let sheet = read_input(&rt, SHEET_LIMIT as u64 + 1)?;
-    let mut places = vec![in heap; Junction(0); 512]?;
-    let mut ring = vec![in heap; Junction(0); 512]?;
-    let mut rows = vec![in heap; 0u64; 8 * 512]?;
-    let mut labels = vec![in heap; EitherLabel::Second(Count(0)); 512]?;
-    let mut scratch = vec![in heap; 0u16; 2 * 512]?;
+    let mut places = filled(heap, Junction(0), 512)?;
+    let mut ring = filled(heap, Junction(0), 512)?;
+    let mut rows = filled(heap, 0u64, 8 * 512)?;
+    let mut labels = filled(heap, EitherLabel::Second(Count(0)), 512)?;
+    let mut scratch = filled(heap, 0u16, 2 * 512)?;
     let mut maker = BitMaker { heap };
     let mut printer = Printer { rt: &rt };
     visit(

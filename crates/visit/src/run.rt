@@ -1,7 +1,11 @@
 //! The visit itself.
+ghost use Prim.Native.Nat.{_≤_};
+ghost use lib.ListN.{length};
+ghost use Rattle.visit.specs.Openings.{Shrunk};
 use crate::answer::Answer;
 use crate::listener::Listener;
 use crate::maker::Maker;
+use label::Count;
 use label::Counting;
 use label::CountingKind;
 use label::Either;
@@ -9,6 +13,7 @@ use label::EitherKind;
 use label::EitherLabel;
 use label::Lexicographic;
 use label::LexicographicKind;
+use label::MarkSet;
 use plan::Junction;
 use plan::Refusal;
 use plan::Register;
@@ -22,6 +27,9 @@ pub const SHEET_LIMIT: usize = 16384;
 
 /// A visit orders by one of two kinds of label.
 pub type KindOfLabel = Either<Lexicographic, Counting>;
+
+/// A label of either kind.
+pub type LabelOfVisit = EitherLabel<MarkSet, Count>;
 
 // A set that was made, with what is left of the sheet behind its line, or the sheet's end.
 enum Opened<'a, R> {
@@ -50,6 +58,7 @@ pub fn visit<M: Maker, L: Listener>(
             let mut set = set;
             run_calls(
                 &mut set,
+                sheet,
                 rest,
                 listener,
                 places,
@@ -68,12 +77,15 @@ fn open_set<'a, M: Maker, L: Listener>(
     sheet: &'a [u8],
     maker: &mut M,
     listener: &mut L,
-) -> Result<Opened<'a, M::Made>, L::Error> {
+) -> Result<Opened<'a, M::Made>, L::Error>
+    ensures { λ r. ⌜ Shrunk (now (sheet .entry)) r ⌝ }
+{
     let mut rest = sheet;
     while !rest.is_empty() {
+        let at = sheet.len() - rest.len();
         let (line, next) = next_line(rest);
         rest = next;
-        let answer = match read_call(line, 0) {
+        let answer = match read_call(line, at) {
             Some(Call::New(n)) => match maker.make(n) {
                 Ok(register) => {
                     listener.hear(Answer::Done, &[], &[])?;
@@ -88,22 +100,26 @@ fn open_set<'a, M: Maker, L: Listener>(
     Ok(Opened::Ended)
 }
 
-// Carries out the calls of the lines on a set.
+// Carries out the calls of the rest of a sheet on a set.
 fn run_calls<R: Register, L: Listener>(
     set: &mut Set<R>,
     sheet: &[u8],
+    rest: &[u8],
     listener: &mut L,
     places: &mut [Junction],
     ring: &mut [Junction],
     rows: &mut [u64],
     labels: &mut [LabelOfVisit],
     scratch: &mut [u16],
-) -> Result<(), L::Error> {
-    let mut rest = sheet;
+) -> Result<(), L::Error>
+    requires { ⌜ length (now rest) ≤ length (now sheet) ⌝ }
+{
+    let mut rest = rest;
     while !rest.is_empty() {
+        let at = sheet.len() - rest.len();
         let (line, next) = next_line(rest);
         rest = next;
-        let answer = match read_call(line, 0) {
+        let answer = match read_call(line, at) {
             Some(call) => carry_out(set, call, places, ring, rows, labels, scratch),
             None => Answer::Refused(Refusal::NoCall),
         };
