@@ -8,7 +8,7 @@ use crate::number::JunctionPartialEq;
 /// The refusals, one for each stated number (docs/REFUSALS.md).
 #[derive(Clone, Copy, PartialEq, Eq, Debug)]
 pub enum Refusal {
-    /// 1: n is not 1 to 512, or c is above its limit.
+    /// 1: n is not 1 to 512, or the number of pipes that a register is made for is above 8,000.
     Size,
     /// 2: a junction is 0 or above n.
     NoJunction,

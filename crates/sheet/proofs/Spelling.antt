@@ -1,16 +1,15 @@
 -- From the parts of a line to the call that it spells, and back.
-use mathlib.Core.Path.{_≡_, refl, sym, ap, _∙_, subst}
+use mathlib.Core.Path.{_≡_, refl, sym, ap, _∙_}
 use mathlib.Core.Bool.{Bool, true, false, cond, _&&_}
 use mathlib.Core.List.{List, [], _∷_, _++_, append-nil}
 use mathlib.Core.Logic.{_⊎_, inl, inr}
-use Prim.Native.Nat.{ℕ, _-_, _<_}
+use Prim.Native.Nat.{ℕ}
 use native.Mathlib.Omega.{arith}
 use lib.Dec.{eqb}
-use lib.ListN.{length, getD, take, drop}
+use lib.ListN.{getD, drop}
 use Rattle.std.specs.declared.option.Option.{Option}
 use Rattle.std.specs.declared.option.Option.the-variants.{Some, None}
-use Rattle.std.proofs.shelf.Lists.{take-rest}
-use Rattle.std.proofs.shelf.Tests.{eq-eqb, eqb-true, and-parts, and-from, both-ways}
+use Rattle.std.proofs.shelf.Tests.{eq-eqb, eqb-true, and-parts, and-from}
 use Rattle.sheet.specs.Arguments.{numbered, number-of, behind}
 use Rattle.sheet.specs.Calls.{Numeral, One, Two, Spells}
 use Rattle.sheet.specs.Fields.{numeral, verb, value-after, sort, a-verb, a-number, a-word}
@@ -31,7 +30,7 @@ chose-none false v e = refl
 -- the rest of a line begins with a blank, and tail, text and after are cut from what follows
 pub record Blanked (rest tail text after : List ℕ) : Type 0 where
   pub blank : getD rest 0 0 ≡ 32
-  pub tail-is : tail ≡ take (length rest - 1) (drop 1 rest)
+  pub tail-is : tail ≡ drop 1 rest
   pub text-is : text ≡ front 32 tail
   pub after-is : after ≡ back 32 tail
 
@@ -39,7 +38,7 @@ module _ (text after : List ℕ) where
   pub argument-found : (rest tail : List ℕ) (n : ℕ) → Blanked rest tail text after → Some n ≡ cond (numeral text) (Some (value-after 0 text)) None → (numbered rest ≡ true) × (n ≡ number-of rest) × (after ≡ behind rest)
   argument-found [] tail n h e = absurd (omega (arith, h .blank))
   argument-found (b ∷ bs) tail n h e =
-      let t : tail ≡ bs = h .tail-is ∙ take-rest (b ∷ bs) 1 in
+      let t : tail ≡ bs = h .tail-is in
       let x : text ≡ front 32 bs = h .text-is ∙ ap (front 32) t in
       let r = chose-some (numeral text) (value-after 0 text) n e in
       (and-from _ _ (eq-eqb b 32 (h .blank)) (sym (ap numeral x) ∙ r .0), r .1 ∙ ap (value-after 0) x, h .after-is ∙ ap (back 32) t)
@@ -47,7 +46,7 @@ module _ (text after : List ℕ) where
   pub argument-missing : (rest tail : List ℕ) → Blanked rest tail text after → None ≡ cond (numeral text) (Some (value-after 0 text)) None → numbered rest ≡ false
   argument-missing [] tail h e = refl
   argument-missing (b ∷ bs) tail h e =
-      let x : text ≡ front 32 bs = h .text-is ∙ ap (front 32) (h .tail-is ∙ take-rest (b ∷ bs) 1) in
+      let x : text ≡ front 32 bs = h .text-is ∙ ap (front 32) (h .tail-is) in
       let q : numeral (front 32 bs) ≡ false = sym (ap numeral x) ∙ chose-none (numeral text) (value-after 0 text) e in
       let p : eqb b 32 ≡ true = eq-eqb b 32 (h .blank) in
       rw (p, q) refl

@@ -4,7 +4,7 @@ use mathlib.Core.Bool.{Bool, true, false, not, cond, _&&_, _||_}
 use mathlib.Core.List.{List, [], _∷_}
 use Prim.Native.Nat.{ℕ, _+_, _-_, _*_}
 use lib.Dec.{eqb, leb}
-use lib.ListN.{length}
+use lib.ListN.{length, drop}
 use denote.Ref.{now}
 use Rattle.sheet.specs.Lines.{front, back}
 use Rattle.sheet.specs.declared.field.Field.{Field}
@@ -60,9 +60,9 @@ place-of (Verb text at) = at
 place-of (Number text at) = at
 place-of (Word text at) = at
 
--- a reading of a line: the field up to the next blank, with the place handed in, and the rest, which begins with that blank
+-- a reading of a line at a place: the field that begins there, up to the next blank, and the rest, which begins with that blank
 pub record Read (line : List ℕ) (at : ℕ) (field : Field) (rest : List ℕ) : Type 0 where
-  pub text : text-of field ≡ front 32 line
-  pub kind : sort-of field ≡ sort (front 32 line)
+  pub text : text-of field ≡ front 32 (drop at line)
+  pub kind : sort-of field ≡ sort (front 32 (drop at line))
   pub place : place-of field ≡ at
-  pub left : rest ≡ back 32 line
+  pub left : rest ≡ back 32 (drop at line)

@@ -5,7 +5,6 @@ ghost use Rattle.sheet.specs.Arguments.{Argument, OneArgument, TwoArguments, A
 use crate::field::Field;
 use crate::field::number;
 use crate::field::read_field;
-use crate::line::split;
 use plan::Junction;
 
 /// A call of a sheet: a new set of n junctions, a change of it, or an order by a kind of label.
@@ -20,12 +19,11 @@ pub enum Call {
     OrderCounting,
 }
 
-/// The call that a line spells, without its byte 10; `None` where it is no call. The line begins
-/// at place `at` of its sheet.
-pub fn read_call(line: &[u8], at: usize) -> Option<Call>
+/// The call that a line spells, without its byte 10; `None` where it is no call.
+pub fn read_call(line: &[u8]) -> Option<Call>
     ensures { λ r. ⌜ Spelled (now (line .entry)) r ⌝ }
 {
-    let (field, rest) = read_field(line, at);
+    let (field, rest) = read_field(line, 0);
     let Field::Verb(text, _) = field else {
         return None;
     };
@@ -87,15 +85,18 @@ fn alone(rest: &[u8], call: Call) -> Option<Call>
 fn argument(rest: &[u8]) -> Option<(u16, &[u8])>
     ensures { λ r. ⌜ Argument (now (rest .entry)) r ⌝ }
 {
-    let [blank, line @ ..] = rest else {
+    let [blank, ..] = rest else {
         return None;
     };
     if *blank != b' ' {
         return None;
     }
-    let (text, rest) = split(line, b' ');
+    let (field, end) = read_field(rest, 1);
+    let Field::Number(text, _) = field else {
+        return None;
+    };
     match number(text) {
-        Some(n) => Some((n, rest)),
+        Some(n) => Some((n, end)),
         None => None,
     }
 }

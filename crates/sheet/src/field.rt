@@ -1,12 +1,13 @@
 //! Fields of a line.
 ghost use mathlib.Core.Path.{_≡_};
 ghost use mathlib.Core.Bool.{cond};
+ghost use lib.ListN.{drop};
 ghost use Rattle.sheet.specs.Fields.{Read, verb, letter, numeral, value-after, sort, sort-of, text-of, place-of};
 ghost use Rattle.std.specs.declared.option.Option.the-variants.{Some, None};
 use crate::line::split;
 
 /// A field of a line: a verb, a number or a stray word, each the bytes of the sheet that it is,
-/// and the place in the sheet where they begin.
+/// and the place in its line where they begin.
 #[derive(Clone, Copy)]
 pub enum Field<'a> {
     Verb(&'a [u8], usize),
@@ -14,13 +15,24 @@ pub enum Field<'a> {
     Word(&'a [u8], usize),
 }
 
-/// Reads the first field of a line that begins at place `at` of its sheet. The field runs to the
-/// next blank or the line's end; the rest begins with that blank.
+/// Reads the field of a line that begins at place `at`, counted from 0. The field runs to the next
+/// blank or the line's end; the rest begins with that blank. Behind the line's end there is nothing
+/// but an empty word.
 pub fn read_field<'a>(line: &'a [u8], at: usize) -> (Field<'a>, &'a [u8])
     ensures { λ r. ⌜ Read (now (line .entry)) at (r .0) (now (r .1)) ⌝ }
 {
-    let (text, rest) = split(line, b' ');
+    let (text, rest) = split(tail(line, at), b' ');
     (classify(text, at), rest)
+}
+
+// The bytes of a line from place `at` on.
+fn tail(line: &[u8], at: usize) -> &[u8]
+    ensures { λ r. ⌜ now r ≡ drop at (now (line .entry)) ⌝ }
+{
+    if at >= line.len() {
+        return &line[line.len()..];
+    }
+    &line[at..]
 }
 
 // The field that the bytes are.

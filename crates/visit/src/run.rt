@@ -82,10 +82,9 @@ fn open_set<'a, M: Maker, L: Listener>(
 {
     let mut rest = sheet;
     while !rest.is_empty() {
-        let at = sheet.len() - rest.len();
         let (line, next) = next_line(rest);
         rest = next;
-        let answer = match read_call(line, at) {
+        let answer = match read_call(line) {
             Some(Call::New(n)) => match maker.make(n) {
                 Ok(register) => {
                     listener.hear(Answer::Done, &[], &[])?;
@@ -116,10 +115,9 @@ fn run_calls<R: Register, L: Listener>(
 {
     let mut rest = rest;
     while !rest.is_empty() {
-        let at = sheet.len() - rest.len();
         let (line, next) = next_line(rest);
         rest = next;
-        let answer = match read_call(line, at) {
+        let answer = match read_call(line) {
             Some(call) => carry_out(set, call, places, ring, rows, labels, scratch),
             None => Answer::Refused(Refusal::NoCall),
         };
