@@ -11,14 +11,10 @@ use Rattle.std.proofs.shelf.Tests.{and-parts, leb-true, lt-ltb}
 use Rattle.std.proofs.shelf.Ways.{tells}
 use Rattle.plan.specs.Plans.{within}
 use Rattle.plan.specs.Registers.{same-pair}
+use Rattle.plan.proofs.Pipes.{within-parts}
 use Rattle.bitset.specs.Bits.{holds, Inserted, Removed}
 use Rattle.bits.specs.Rows.{cell, joined, kept, Added, Taken}
 use Rattle.bitset.proofs.Held.{zero-word}
-
-pub within-parts : (n v : ℕ) → within n v ≡ true → (1 ≤ v) × (v ≤ n)
-within-parts n v e =
-    let p : (leb 1 v ≡ true) × (leb v n ≡ true) = and-parts (leb 1 v) (leb v n) e in
-    (leb-true 1 v (p .0), leb-true v n (p .1))
 
 pub cell-same : (v w a b : ℕ) → 1 ≤ v → 1 ≤ w → w ≤ 512 → 1 ≤ a → 1 ≤ b → b ≤ 512 → eqb (cell a b) (cell v w) ≡ (eqb a v && eqb b w)
 cell-same v w a b v-some w-some w-few a-some b-some b-few = grind (arith, tells)

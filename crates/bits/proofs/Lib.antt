@@ -1,5 +1,4 @@
 pub mod Blanks
 pub mod Cells
 pub mod Neighbours
-pub mod Pipes
 pub mod Steps

@@ -13,7 +13,7 @@ use Rattle.plan.specs.Plans.{within, NextNeighbour}
 use Rattle.bitset.specs.Bits.{holds, NextHeld}
 use Rattle.bitset.proofs.Held.{holds-part}
 use Rattle.bits.specs.Rows.{cell, joined, kept}
-use Rattle.bits.proofs.Cells.{within-parts}
+use Rattle.plan.proofs.Pipes.{within-parts}
 
 module _ (n : ℕ) (ws : List ℕ) (v w : ℕ) (few : n ≤ 512) (v-in : within n v ≡ true) where
   abbrev row : List ℕ

@@ -20,16 +20,8 @@ use Rattle.bitset.specs.Bits.{holds}
 use Rattle.bits.specs.declared.register.BitRegister.{BitRegister}
 use Rattle.bits.specs.Making.{plan-of}
 use Rattle.bits.specs.Rows.{cell, joined, kept, Added, Taken}
-use Rattle.bits.proofs.Cells.{within-parts, joined-added, joined-taken, kept-same}
-use Rattle.bits.proofs.Pipes.{added-alike, added-apart, taken-alike, taken-apart, pairs-added, pairs-taken}
-
-pub joins-carried : (p p′ : Plan) (s v w : ℕ) → join-verdict p s v w ≡ carried → p′ ≡ with-pipe p v w → Joins p s v w carried p′ (s - 1)
-joins-carried p p′ s v w e same =
-    record { says = sym e; plan = same ∙ sym (ap (λ t. after t (with-pipe p v w) p) e); spare = sym (ap (λ t. after t (s - 1) s) e) }
-
-pub cuts-carried : (p p′ : Plan) (s v w : ℕ) → cut-verdict p v w ≡ carried → p′ ≡ without-pipe p v w → Cuts p s v w carried p′ (s + 1)
-cuts-carried p p′ s v w e same =
-    record { says = sym e; plan = same ∙ sym (ap (λ t. after t (without-pipe p v w) p) e); spare = sym (ap (λ t. after t (s + 1) s) e) }
+use Rattle.bits.proofs.Cells.{joined-added, joined-taken, kept-same}
+use Rattle.plan.proofs.Pipes.{within-parts, joins-carried, cuts-carried, added-alike, added-apart, taken-alike, taken-apart, pairs-added, pairs-taken}
 
 -- the words of a register after they were lent and a pipe was added or taken away
 module _ (words : Vec ℕ Global) (lent last : List ℕ) (n v w : ℕ) (lent-is : lent ≡ vec-items words) (long : length last ≡ length lent) (few : n ≤ 512) (v-in : within n v ≡ true) (w-in : within n w ≡ true) where

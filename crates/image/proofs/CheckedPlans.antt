@@ -1,8 +1,8 @@
 -- The plan of a checked image.
-use mathlib.Core.Path.{_≡_, refl, sym, ap, _∙_}
+use mathlib.Core.Path.{_≡_, ap, _∙_}
 use mathlib.Core.Bool.{true, false}
 use mathlib.Core.Logic.{_⊎_, inl, inr}
-use Prim.Native.Nat.{ℕ, _≤_, _<_}
+use Prim.Native.Nat.{ℕ, _<_}
 use native.Mathlib.Omega.{arith}
 use Rattle.std.specs.declared.option.Option.{Option}
 use Rattle.std.specs.declared.option.Option.the-variants.{Some, None}
@@ -12,7 +12,8 @@ use Rattle.plan.specs.declared.number.Junction.{Junction}
 use Rattle.plan.specs.Plans.{Plan, Sound, NextNeighbour}
 use Rattle.image.specs.declared.checked.CheckedImage.{CheckedImage}
 use Rattle.image.specs.Checked.{plan-in, LowerNeighbour}
-use Rattle.image.proofs.Sounds.{sound-laws, is-sound-carried}
+use Rattle.image.proofs.SoundImages.{sound-laws}
+use Rattle.image.proofs.Sounds.{is-sound-carried}
 
 pub checked-sound : (c : CheckedImage) → Sound (plan-in c)
 checked-sound c = sound-laws (vec-items (c .bytes)) (is-sound-carried (vec-items (c .bytes)) (c .sound)) .plan

@@ -1,19 +1,18 @@
 -- The header of an image and its length: what they tell of the verdict.
-use mathlib.Core.Path.{_≡_, refl, sym, ap, _∙_}
-use mathlib.Core.Bool.{true, false, not, _&&_}
+use mathlib.Core.Path.{_≡_, refl, sym, _∙_}
+use mathlib.Core.Bool.{true, false, _&&_}
 use mathlib.Core.List.{List, []}
 use mathlib.Core.Logic.{_⊎_, inl, inr}
 use Prim.Native.Nat.{ℕ, _≤_, _<_}
 use native.Mathlib.Omega.{arith}
-use lib.Dec.{eqb, leb, ltb}
+use lib.Dec.{eqb, leb}
 use lib.ListN.{length}
-use Rattle.std.proofs.shelf.Tests.{cases-bool, and-parts, and-from, lt-ltb, le-ltb, le-leb, leb-true, eq-eqb, ne-eqb, eqb-true, eqb-false, both-ways, not-from-true, not-from-false, not-true, not-false}
-use Rattle.std.specs.declared.result.Result.the-variants.{Ok, Err}
+use Rattle.std.proofs.shelf.Tests.{cases-bool, and-parts, and-from, lt-ltb, le-ltb, le-leb, leb-true, eq-eqb, ne-eqb, eqb-true}
+use Rattle.std.specs.declared.result.Result.the-variants.{Ok}
 use Rattle.plan.specs.Plans.{within}
-use Rattle.plan.specs.Refusals.{Verdict, carried, refused}
-use Rattle.plan.proofs.Verdicts.{carried≢refused}
+use Rattle.plan.specs.Refusals.{refused}
 use Rattle.image.specs.Images.{field, image-of, image-length}
-use Rattle.image.specs.Reading.{header-sound, chains-verdict, read-verdict, Laid, HeaderRead}
+use Rattle.image.specs.Reading.{header-sound, chains-verdict, read-verdict, HeaderRead}
 use Rattle.image.specs.declared.header.Header.{Header}
 
 -- each field of the header is in its range

@@ -1,7 +1,14 @@
 pub mod CheckedPlans
+pub mod Countings
 pub mod Headers
+pub mod Layouts
 pub mod Ranges
+pub mod RoundTrips
 pub mod Seeks
+pub mod SoundImages
 pub mod Sounds
-pub mod Walks
+pub mod Stretches
 pub mod Tallies
+pub mod Uppers
+pub mod Walks
+pub mod Writes

@@ -5,7 +5,7 @@ use mathlib.Core.Logic.{_⊎_, inl, inr}
 use Prim.Native.Nat.{ℕ, zero, suc, _+_, _≤_, _<_}
 use native.Mathlib.Omega.{arith}
 use lib.Dec.{eqb}
-use Rattle.std.proofs.shelf.Tests.{cases-eq, cases-lt, cases-bool, both-ways, and-parts, and-from, or-cases, or-left, or-right, or-from, eq-eqb, ne-eqb, eqb-true, eqb-false}
+use Rattle.std.proofs.shelf.Tests.{cases-eq, both-ways, and-parts, and-from, or-cases, or-left, or-right, or-from, eq-eqb, ne-eqb}
 use Rattle.plan.specs.Plans.{count}
 use Rattle.plan.proofs.Counts.{count-le}
 use Rattle.image.specs.Ranges.{each, some, lowest}

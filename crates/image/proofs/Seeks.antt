@@ -1,17 +1,17 @@
 -- The walk along a chain of a sound image for the lowest far end above w.
-use mathlib.Core.Path.{_≡_, refl, sym, ap, _∙_}
-use mathlib.Core.Bool.{Bool, true, false, cond, _||_}
+use mathlib.Core.Path.{_≡_, sym, ap, _∙_}
+use mathlib.Core.Bool.{true, false, cond}
 use mathlib.Core.Logic.{_⊎_, inl, inr}
-use Prim.Native.Nat.{ℕ, zero, suc, _+_, _-_, _≤_, _<_}
+use Prim.Native.Nat.{ℕ, zero, suc, _-_, _≤_, _<_}
 use native.Mathlib.Omega.{arith}
 use lib.Dec.{eqb}
 use Rattle.std.specs.declared.option.Option.the-variants.{Some, None}
 use Rattle.std.proofs.shelf.Tests.{cases-eq, cases-bool, both-ways, or-cases, ne-eqb, eq-eqb, eqb-true}
 use Rattle.plan.specs.declared.number.Junction.{Junction}
 use Rattle.plan.specs.Plans.{NextNeighbour}
-use Rattle.image.specs.Chains.{sound-from, sound-chain, reaches, in-chain, pipe, plan-of}
+use Rattle.image.specs.Chains.{sound-from, reaches, in-chain, pipe, plan-of}
 use Rattle.image.specs.Images.{Image}
-use Rattle.image.proofs.Sounds.{Chained, Placed, placed, pipe-record, record-pipe}
+use Rattle.image.proofs.Sounds.{Chained, placed, pipe-record, record-pipe}
 use Rattle.image.proofs.Walks.{Member, reaches-member, reaches-step, reaches-end, sound-more, follows-member}
 
 -- how far a walk at index i is from the end at most: far ends rise to n

@@ -3,26 +3,25 @@ use mathlib.Core.Path.{_≡_, refl, sym, ap, _∙_}
 use mathlib.Core.Bool.{Bool, true, false, not, cond, _&&_, _||_}
 use mathlib.Core.List.{List, [], _∷_}
 use mathlib.Core.Logic.{_⊎_, inl, inr}
-use Prim.Native.Nat.{ℕ, zero, suc, _+_, _-_, _≤_, _<_}
+use Prim.Native.Nat.{ℕ, zero, suc, _≤_, _<_}
 use native.Mathlib.Omega.{arith}
 use lib.Dec.{eqb, leb, ltb}
 use lib.ListN.{length}
-use Rattle.std.proofs.shelf.Tests.{cases-eq, cases-bool, cases-lt, both-ways, and-parts, and-from, or-cases, or-left, or-right, or-from, eq-eqb, ne-eqb, eqb-true, not-false, not-true, leb-true, le-leb}
+use Rattle.std.proofs.shelf.Tests.{cases-eq, cases-bool, both-ways, and-parts, and-from, or-cases, or-left, eq-eqb, eqb-true, not-false, leb-true, le-leb}
 use Rattle.std.proofs.shelf.Ways.{tells}
-use Rattle.plan.specs.Plans.{Plan, Sound, within}
+use Rattle.plan.specs.Plans.{Sound, within}
 use Rattle.plan.specs.Refusals.{Verdict, carried, refused}
 use Rattle.plan.specs.Registers.{same-pair}
 use Rattle.plan.proofs.Verdicts.{carried≢refused}
 use Rattle.image.specs.Chains.{sound-from, sound-chain, reaches, in-chain, reached, pipe, plan-of}
 use Rattle.image.specs.Images.{Image, field, image-of, image-length}
-use Rattle.image.specs.Laws.{SoundLaws}
 use Rattle.image.specs.Ranges.{each, some, lowest}
 use Rattle.image.specs.Reading.{header-sound, chains-verdict, read-verdict, is-carried, is-sound, Laid}
 use Rattle.image.specs.declared.header.Header.{Header}
 use Rattle.image.proofs.Headers.{InRange, sound-in-range}
 use Rattle.image.proofs.Ranges.{some-at, some-one, some-none, some-same, each-at, each-all}
 use Rattle.image.proofs.Tallies.{in-chain-near}
-use Rattle.image.proofs.Walks.{Member, reaches-member, reaches-step, reaches-end, sound-more, follows-member}
+use Rattle.image.proofs.Walks.{Member, reaches-member, reaches-step, reaches-end, sound-more}
 
 pub within-parts : (n v : ℕ) → within n v ≡ true → (1 ≤ v) × (v ≤ n)
 within-parts n v h = let p = and-parts (leb 1 v) (leb v n) h in (leb-true 1 v (p .0), leb-true v n (p .1))
@@ -198,18 +197,6 @@ module _ (m : Image) (c : Chained m) where
       alone v (inl h) = absurd (pipe-ends m c v v h .2 refl)
       alone v (inr h) = h
 
-  pub chained-laws : 1 ≤ m .size → m .size ≤ 512 → SoundLaws m
-  chained-laws some few =
-      record {
-        ends = λ i a b. let p = placed m c i a b in (p .some, p .above, p .below);
-        chained = λ i a b. placed m c i a b .here;
-        apart = λ v i a b h. sym (in-chain-near m v i (c .sound v a b) h .near);
-        single = single m c;
-        joined = pipe-record m c;
-        joins = λ i a b. record-pipe m c i (m .near i) (m .far i) a b refl refl;
-        plan = plan-sound some few;
-      }
-
 pub is-sound-carried : (bytes : List ℕ) → is-sound bytes ≡ true → read-verdict bytes ≡ carried
 is-sound-carried bytes h = go (read-verdict bytes) h
   where
@@ -220,17 +207,6 @@ is-sound-carried bytes h = go (read-verdict bytes) h
 -- what a sound image is
 pub sound-chained : (bytes : List ℕ) → read-verdict bytes ≡ carried → Chained (image-of bytes)
 sound-chained bytes h = chains-chained (image-of bytes) (carried-parts bytes h .chains)
-
-pub sound-laws : (bytes : List ℕ) → read-verdict bytes ≡ carried → SoundLaws (image-of bytes)
-unfolding image-of
-sound-laws bytes h =
-    let p : Carried bytes = carried-parts bytes h in
-    chained-laws (image-of bytes) (sound-chained bytes h) (p .range .some) (p .range .few)
-
-pub lost-refused : (bytes : List ℕ) (i : ℕ) → 1 ≤ i → i ≤ image-of bytes .records → ((v : ℕ) → 1 ≤ v → v ≤ image-of bytes .size → in-chain (image-of bytes) v i ≡ false) → read-verdict bytes ≡ carried → ⊥
-lost-refused bytes i a b none h =
-    let r = sound-chained bytes h .all i a b in
-    both-ways (in-chain (image-of bytes) (r .0) i) (none (r .0) (r .1) (r .2)) (r .3)
 
 pub sound-laid : (bytes : List ℕ) (h : Header) → is-sound bytes ≡ true → h .n ≡ image-of bytes .size → h .records ≡ image-of bytes .records → Laid bytes h
 unfolding image-of

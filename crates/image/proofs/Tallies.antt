@@ -3,10 +3,9 @@ use mathlib.Core.Path.{_≡_, refl, sym, ap, _∙_}
 use mathlib.Core.Bool.{Bool, true, false, not, cond, _||_}
 use mathlib.Core.List.{[], _∷_}
 use mathlib.Core.Logic.{_⊎_, inl, inr}
-use Prim.Native.Nat.{ℕ, zero, suc, _+_, _-_, _≤_, _<_}
+use Prim.Native.Nat.{ℕ, suc, _+_, _-_, _≤_, _<_}
 use native.Mathlib.Omega.{arith}
-use lib.Dec.{eqb}
-use Rattle.std.proofs.shelf.Tests.{cases-eq, not-true, not-false, not-from-true, not-from-false, ne-eqb, eq-eqb}
+use Rattle.std.proofs.shelf.Tests.{cases-eq, not-from-true, not-from-false, ne-eqb, eq-eqb}
 use Rattle.plan.specs.Plans.{count}
 use Rattle.plan.specs.Refusals.{carried, refused}
 use Rattle.plan.proofs.Counts.{count-le}
@@ -38,7 +37,7 @@ module _ (m : Image) where
   pub tally-most : (v total : ℕ) → Tallied m v total → total ≤ m .records
   tally-most v total t = omega (arith, t .counted, count-le (λ j. reached-to m v (suc j)) (m .records))
 
-  tally-next : (v total more : ℕ) → Tallied m v total → Walked m (suc v) (Some more) → Tallied m (suc v) (total + more)
+  pub tally-next : (v total more : ℕ) → Tallied m v total → Walked m (suc v) (Some more) → Tallied m (suc v) (total + more)
   tally-next v total more t (s, e) =
       record {
         sound = λ u a b. all u a (cases-eq u (suc v)) b;

@@ -1,15 +1,15 @@
 -- The walk along a chain of an image.
 use mathlib.Core.Path.{_≡_, refl, sym, ap, _∙_}
-use mathlib.Core.Bool.{Bool, true, false, not, cond, _&&_, _||_}
+use mathlib.Core.Bool.{true, false, not, cond, _&&_, _||_}
 use mathlib.Core.Logic.{_⊎_, inl, inr}
 use Prim.Native.Nat.{ℕ, zero, suc, _+_, _-_, _≤_, _<_}
 use native.Mathlib.Omega.{arith}
 use lib.Dec.{eqb, leb, ltb}
-use Rattle.std.proofs.shelf.Tests.{cases-eq, cases-bool, both-ways, and-parts, and-from, or-cases, or-left, or-right, or-from, eq-eqb, ne-eqb, eqb-true, leb-true, ltb-true, le-leb, lt-ltb}
+use Rattle.std.proofs.shelf.Tests.{cases-eq, cases-bool, both-ways, and-parts, and-from, or-cases, or-left, eq-eqb, ne-eqb, eqb-true, leb-true, ltb-true, le-leb, lt-ltb}
 use Rattle.plan.specs.Plans.{count}
-use Rattle.plan.proofs.Counts.{count-more, count-same}
+use Rattle.plan.proofs.Counts.{count-more}
 use Rattle.image.specs.Images.{Image}
-use Rattle.std.specs.declared.option.Option.the-variants.{Some, None}
+use Rattle.std.specs.declared.option.Option.the-variants.{Some}
 use Rattle.image.specs.Reading.{Walked}
 use Rattle.image.specs.Chains.{follows, sound-from, sound-chain, reaches, in-chain}
 use Rattle.image.proofs.Ranges.{count-none}
@@ -102,17 +102,17 @@ steps m zero i = 0
 steps m (suc k) i = cond (eqb i 0) 0 (suc (steps m k (m .next i)))
 
 module _ (m : Image) (v : ℕ) where
-  steps-end : (k : ℕ) → steps m k 0 ≡ 0
+  pub steps-end : (k : ℕ) → steps m k 0 ≡ 0
   unfolding steps
   steps-end zero = refl
   steps-end (suc k) = refl
 
-  steps-step : (k i : ℕ) → (i ≡ 0 → ⊥) → steps m (suc k) i ≡ suc (steps m k (m .next i))
+  pub steps-step : (k i : ℕ) → (i ≡ 0 → ⊥) → steps m (suc k) i ≡ suc (steps m k (m .next i))
   unfolding steps
   steps-step k i ne = rw (ne-eqb i 0 ne)
 
   -- a sound chain reaches no record twice, so it reaches as many as it has steps
-  steps-counted : (k low i : ℕ) → sound-from m v k low i ≡ true → count (λ j. reaches m k i (suc j)) (m .records) ≡ steps m k i
+  pub steps-counted : (k low i : ℕ) → sound-from m v k low i ≡ true → count (λ j. reaches m k i (suc j)) (m .records) ≡ steps m k i
   unfolding reaches steps
   steps-counted zero low i s = count-none (λ j. false) (m .records) (λ j l. refl)
   steps-counted (suc k) low i s = go (cases-eq i 0) (steps-counted k (m .far i) (m .next i))

@@ -5,7 +5,7 @@ use lib.Dec.{eqb, leb, ltb}
 use Rattle.plan.specs.Plans.{Plan, within}
 use Rattle.plan.specs.Registers.{same-pair}
 use Rattle.image.specs.Images.{Image}
-use Rattle.image.specs.Ranges.{each, some}
+use Rattle.image.specs.Ranges.{some}
 
 -- record i may follow a far end low in the chain of v: there is such a record, its near end is v, and its far end is above low and at most n
 abbrev pub follows : Image → ℕ → ℕ → ℕ → Bool

@@ -5,3 +5,4 @@ pub mod Laws
 pub mod Ranges
 pub mod Reading
 pub mod Worked
+pub mod Writing

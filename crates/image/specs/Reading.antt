@@ -2,18 +2,19 @@
 use mathlib.Core.Bool.{Bool, true, false, not, cond, _&&_}
 use mathlib.Core.List.{List, [], _∷_}
 use mathlib.Core.Path.{_≡_}
-use Prim.Native.Nat.{ℕ, suc, _≤_}
+use Prim.Native.Nat.{ℕ, suc, _+_, _≤_}
 use lib.Dec.{eqb, leb, ltb}
 use lib.ListN.{length}
 use Rattle.std.specs.declared.option.Option.{Option}
 use Rattle.std.specs.declared.option.Option.the-variants.{Some, None}
 use Rattle.std.specs.declared.result.Result.{Result}
 use Rattle.std.specs.declared.result.Result.the-variants.{Ok, Err}
+use Rattle.plan.specs.declared.number.Junction.{Junction}
 use Rattle.plan.specs.declared.refusal.Refusal.{Refusal}
 use Rattle.plan.specs.Plans.{within, count}
 use Rattle.plan.specs.Refusals.{Verdict, carried, refused, number, values}
 use Rattle.image.specs.Chains.{sound-chain, in-chain, reached}
-use Rattle.image.specs.Images.{Image, field, image-of, image-length}
+use Rattle.image.specs.Images.{Image, field, record-at, image-of, image-length}
 use Rattle.image.specs.declared.header.Header.{Header}
 use Rattle.image.specs.Ranges.{each, some, lowest}
 
@@ -65,3 +66,12 @@ HeaderRead bytes (Err e) = refused (number e) (values e) ≡ read-verdict bytes
 abbrev pub HeaderOf : List ℕ → Result Header Refusal → Type 0
 HeaderOf bytes (Ok h) = Laid bytes h
 HeaderOf bytes (Err e) = Unit {0}
+
+-- the bytes reach to the end of the record of index i
+abbrev pub has-record : List ℕ → ℕ → Bool
+has-record bytes i = leb 1 i && leb (record-at (field bytes 0) i + 6) (length bytes)
+
+-- the ends of the record of index i, where the bytes have it
+abbrev pub RecordEnds : List ℕ → ℕ → Option (Junction × Junction) → Type 0
+RecordEnds bytes i None = has-record bytes i ≡ false
+RecordEnds bytes i (Some ends) = (has-record bytes i ≡ true) × (ends .0 .0 ≡ image-of bytes .near i) × (ends .1 .0 ≡ image-of bytes .far i)

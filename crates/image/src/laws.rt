@@ -3,6 +3,7 @@
 ghost use mathlib.Core.Path.{_≡_};
 ghost use Rattle.image.specs.Laws.{ImageLaws};
 ghost use Rattle.image.specs.Worked.{WorkedImages};
+ghost use Rattle.image.specs.Writing.{RoundTrips};
 
 /// In a sound image every record is in exactly one chain, that of its near end; no two records
 /// have the same ends; two junctions are joined exactly where some record has them as its ends. An
@@ -11,6 +12,16 @@ ghost use Rattle.image.specs.Worked.{WorkedImages};
 pub fn image_laws() -> u8
     ensures value { λ r. ⌜ r ≡ 0 ⌝ }
     ensures laws { λ _. ⌜ ImageLaws ⌝ }
+{
+    0
+}
+
+/// What is written for a plan of at most 8,000 pipes is a sound image, and stands for the plan with
+/// the same junctions, all in service, and the same pipes. That is what the contract says.
+/// Answers 0.
+pub fn round_trips() -> u8
+    ensures value { λ r. ⌜ r ≡ 0 ⌝ }
+    ensures trips { λ _. ⌜ RoundTrips ⌝ }
 {
     0
 }

@@ -1,13 +1,15 @@
 //! Reading an image.
 ghost use mathlib.Core.Path.{_≡_};
 ghost use Rattle.plan.specs.Refusals.{heard};
-ghost use Rattle.image.specs.Reading.{read-verdict, HeaderOf, HeaderRead};
+ghost use Rattle.image.specs.Reading.{read-verdict, HeaderOf, HeaderRead, RecordEnds};
 use crate::chains::check_chains;
 use crate::fields::number;
+use crate::fields::read;
 use crate::header::EDITION;
 use crate::header::Header;
 use crate::header::MOST_JUNCTIONS;
 use crate::header::MOST_RECORDS;
+use plan::Junction;
 use plan::Refusal;
 
 /// The header, where its fields are in their ranges and the length is the one that it says. Turned
@@ -57,4 +59,19 @@ pub fn check(bytes: &[u8]) -> Result<Header, Refusal>
         Ok(()) => Ok(header),
         Err(refusal) => Err(refusal),
     }
+}
+
+/// The near and the far end of the record of index i, counted from 1, or `None` where the bytes end
+/// before it. A sound image has one for each index up to its number of records.
+pub fn record_ends(bytes: &[u8], i: u16) -> Option<(Junction, Junction)>
+    ensures { λ r. ⌜ RecordEnds (now (bytes .entry)) i r ⌝ }
+{
+    if i == 0 || bytes.len() < 8 {
+        return None;
+    }
+    let at = 8 + 2 * read(bytes, 0) as usize + 6 * (i as usize - 1);
+    if bytes.len() < at + 6 {
+        return None;
+    }
+    Some((Junction(read(bytes, at)), Junction(read(bytes, at + 2))))
 }

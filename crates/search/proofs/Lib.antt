@@ -1,3 +1,4 @@
+pub mod Choosing
 pub mod Computed
 pub mod Filling
 pub mod Going

@@ -1,7 +1,7 @@
 use native.Mathlib.Omega.{arith}
 use mathlib.Core.Path.{sym, _∙_}
 use Rattle.image.specs.Images.{image-of}
-use Rattle.image.proofs.Walks.{Member, walk-goes-on, walk-fails, walk-ends}
+use Rattle.image.proofs.Walks.{walk-goes-on, walk-fails, walk-ends}
 use Rattle.image.proofs.chains.chain_length.Needs as need
 
 pub returns-then-i-header : need.returns-then-i-header

@@ -1,5 +1,4 @@
 use native.Mathlib.Omega.{arith}
-use mathlib.Core.Path.{_∙_}
 use Prim.Native.Nat.{_-_, _+_, _≤_}
 use Rattle.image.specs.Images.{image-of}
 use Rattle.image.proofs.Tallies.{Tallied, tally-starts, tally-goes-on, tally-most, tally-fails, tally-full, tally-lacks}

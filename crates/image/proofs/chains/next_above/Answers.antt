@@ -1,9 +1,7 @@
 use native.Mathlib.Omega.{arith}
-use mathlib.Core.Path.{_≡_}
-use Prim.Native.Nat.{_≤_}
-use Rattle.image.specs.Images.{Image, image-of}
+use Rattle.image.specs.Images.{image-of}
 use Rattle.image.proofs.Seeks.{Seeking, Step, seek-starts, seek-steps, seek-goes-on, seek-falls, seek-finds, seek-ends}
-use Rattle.image.proofs.Sounds.{Chained, sound-chained, is-sound-carried, within-parts}
+use Rattle.image.proofs.Sounds.{sound-chained, is-sound-carried, within-parts}
 use Rattle.image.proofs.chains.next_above.Needs as need
 
 pub loop-i-holds : need.loop-i-holds

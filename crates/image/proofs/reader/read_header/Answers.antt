@@ -1,9 +1,7 @@
 use native.Mathlib.Omega.{arith}
-use mathlib.Core.Path.{_≡_}
-use Prim.Native.Nat.{_≤_, _-_, _+_, _*_}
-use lib.ListN.{length, take, drop, length-take, length-drop}
+use lib.ListN.{length-take, length-drop}
 use Rattle.std.proofs.shelf.Tests.{ltb-true, ltb-false}
-use Rattle.image.proofs.Headers.{InRange, in-range, header-read, verdict-short, verdict-header, verdict-length}
+use Rattle.image.proofs.Headers.{in-range, header-read, verdict-short, verdict-header, verdict-length}
 use Rattle.image.proofs.reader.read_header.Needs as need
 
 pub returns-in-rest : need.returns-in-rest

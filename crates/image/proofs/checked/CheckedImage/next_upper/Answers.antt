@@ -1,8 +1,8 @@
 use native.Mathlib.Omega.{arith}
-use mathlib.Core.Path.{_≡_, ap, _∙_}
+use mathlib.Core.Path.{ap, _∙_}
 use Rattle.std.specs.Of.Vec.{vec-items}
 use Rattle.plan.specs.Plans.{within}
-use Rattle.image.specs.Reading.{Laid, is-sound}
+use Rattle.image.specs.Reading.{is-sound}
 use Rattle.image.proofs.Sounds.{sound-laid}
 use Rattle.image.proofs.checked.CheckedImage.next_upper.Needs as need
 

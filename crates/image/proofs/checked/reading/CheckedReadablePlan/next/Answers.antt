@@ -1,4 +1,3 @@
-use native.Mathlib.Omega.{arith}
 use mathlib.Core.Path.{sym}
 use Rattle.image.specs.Checked.{plan-in}
 use Rattle.image.proofs.CheckedPlans.{checked-sound, outside-apart, next-past}

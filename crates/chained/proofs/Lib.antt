@@ -1,0 +1,10 @@
+pub mod Blanks
+pub mod Chains
+pub mod Cutting
+pub mod Joining
+pub mod Layouts
+pub mod Nodes
+pub mod States
+pub mod Steps
+pub mod Walks
+pub mod Writes
