@@ -4,7 +4,7 @@ use Rattle.std.specs.declared.alloc.Global.{Global}
 use Rattle.std.specs.Vec.{with_items}
 use Rattle.std.proofs.lemmas.Bool.{ne_eqb}
 use Rattle.plan.specs.Plans.{within, pairs}
-use Rattle.plan.specs.Refusals.{carried, after}
+use Rattle.plan.specs.Refusals.{carried}
 use Rattle.plan.specs.Registers.{same_pair, join_verdict, cut_verdict, Joins, Cuts}
 use Rattle.plan.proofs.Counts.{pairs-le}
 use Rattle.bitset.specs.Bits.{holds}

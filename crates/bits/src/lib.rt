@@ -1,5 +1,7 @@
 //! The bit register: a register that keeps its pipes as rows of bits.
 
+#![tactic(auto)]
+
 mod register;
 mod rows;
 #[cfg(test)]

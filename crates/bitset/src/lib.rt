@@ -1,5 +1,7 @@
 //! Sets of numbers kept in 64-bit words: number i is held by bit i % 64 of word i / 64.
 
+#![tactic(auto)]
+
 #[cfg(test)]
 mod tests;
 

@@ -1,5 +1,5 @@
 -- What is heard of a call: its answer, and the answer lists as they are after it.
-use Rattle.std.specs.Prelude.{ℕ, List, [], ◌∷◌, ◌++◌, Ok, Err, Result}
+use Rattle.std.specs.Prelude.{ℕ, List, ◌++◌, Ok, Err, Result}
 use Rattle.plan.specs.declared.number.Junction.{Junction}
 use Rattle.plan.specs.declared.refusal.Refusal.{Refusal}
 use Rattle.plan.specs.Refusals.{Verdict, carried, refused, number, values}

@@ -2,7 +2,7 @@
 use Rattle.std.specs.Prelude.{◌≡◌, ℕ, ◌+◌, Bool, true, false, cond, ◌↔◌, List, [], ◌∷◌, ◌++◌, take, Some, None, Option, ◌==◌}
 use Rattle.std.specs.declared.cmp.Ordering.{Ordering}
 use Rattle.plan.specs.Orders.{numbers}
-use Rattle.plan.specs.Refusals.{Verdict, carried, refused, after}
+use Rattle.plan.specs.Refusals.{after}
 use Rattle.plan.specs.Registers.{same_pair}
 use Rattle.image.specs.Chains.{pipe}
 use Rattle.image.specs.Images.{image_of}

@@ -1,5 +1,7 @@
 //! Lists of calls on a set, and who hears the answers.
 
+#![tactic(auto)]
+
 mod answer;
 mod call;
 mod laws;

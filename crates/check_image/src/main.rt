@@ -1,5 +1,7 @@
 //! Looks at an image before it is sent: prints the plan that it is, or why it is refused.
 
+#![tactic(auto)]
+
 mod report;
 #[cfg(test)]
 mod tests;

@@ -1,5 +1,8 @@
 //! The edge of a program: its input, from standard input or from the file that it is named, and the
 //! memory that it hands to the library.
+
+#![tactic(auto)]
+
 ghost use Rattle.std.specs.Prelude.{◌≡◌, ℕ, ◌<◌, ◌≤◌, IfOk, vec_len, slice_index_or};
 
 use std::alloc::{AllocError, Global};

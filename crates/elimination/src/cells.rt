@@ -7,7 +7,7 @@ use plan::{Junction, ReadablePlan};
 // How many neighbours of w have a number below w.
 fn neighbours_below<P: ReadablePlan>(plan: &P, w: Junction) -> u32
     requires { (1 ≤ w.0) × (w.0 ≤ 512) }
-    ensures { result ≡ count (λ v. (meaning plan.now).joins (suc v) w.0) (w.0 - 1) }
+    ensures { result ≡ count (λ v. (P.meaning plan.now).joins (suc v) w.0) (w.0 - 1) }
 {
     let mut found = 0;
     let mut last = Junction(0);
@@ -23,7 +23,7 @@ fn neighbours_below<P: ReadablePlan>(plan: &P, w: Junction) -> u32
 
 /// How many pipes the plan has between junctions in service.
 pub fn pipes<P: ReadablePlan>(plan: &P) -> u32
-    ensures { result ≡ pairs (meaning plan.now).joins (meaning plan.now).size }
+    ensures { result ≡ pairs (P.meaning plan.now).joins (P.meaning plan.now).size }
 {
     let mut found = 0;
     for w in 1..plan.size() + 1 {

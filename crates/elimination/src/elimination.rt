@@ -15,8 +15,8 @@ use plan::{Junction, ReadablePlan, Refusal};
 /// no order of the plan's junctions, then by 8 where there are under 8n words; every word then
 /// stays.
 pub fn fill<P: ReadablePlan>(plan: &P, order: &[Junction], rows: &mut [u64]) -> Result<u32, Refusal>
-    ensures answer { heard result ≡ fill_verdict (meaning plan.now).size (numbers order.now) (length rows.old) }
-    ensures written { MatchResult result (λ count. Fills (meaning plan.now) (numbers order.now) rows.old count rows.new) (λ _. rows.new ≡ rows.old) }
+    ensures answer { heard result ≡ fill_verdict (P.meaning plan.now).size (numbers order.now) (length rows.old) }
+    ensures written { MatchResult result (λ count. Fills (P.meaning plan.now) (numbers order.now) rows.old count rows.new) (λ _. rows.new ≡ rows.old) }
 {
     let n = plan.size();
     let Some(places) = places_of(n, order) else {

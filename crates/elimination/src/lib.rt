@@ -1,5 +1,7 @@
 //! Vertex elimination: the fill of an order of elimination.
 
+#![tactic(auto)]
+
 mod cells;
 mod elimination;
 mod order;

@@ -16,8 +16,8 @@ fn place_of(places: &[Place; 512], v: Junction) -> Place
 
 // The lowest junction above w that is joined to v by a pipe or by the fill found so far.
 fn next_known<P: ReadablePlan>(plan: &P, rows: &[u64], v: Junction, w: Junction) -> Option<Junction>
-    requires { (1 ≤ v.0) × ((v.0 ≤ (meaning plan.now).size) × (8 * v.0 ≤ length rows.now)) }
-    ensures { NextIn (known (meaning plan.now) rows.now v.0) w.0 result }
+    requires { (1 ≤ v.0) × ((v.0 ≤ (P.meaning plan.now).size) × (8 * v.0 ≤ length rows.now)) }
+    ensures { NextIn (known (P.meaning plan.now) rows.now v.0) w.0 result }
 {
     match (plan.next(v, w), next_marked(rows, v, w)) {
         (Some(a), Some(b)) => Some(Junction(a.0.min(b.0))),
@@ -51,8 +51,8 @@ fn earliest<P: ReadablePlan>(
     rows: &[u64],
     v: Junction,
 ) -> Option<Junction>
-    requires { (1 ≤ v.0) × ((v.0 ≤ (meaning plan.now).size) × (8 * v.0 ≤ length rows.now)) }
-    ensures { Earliest (known (meaning plan.now) rows.now) (at places.now) v.0 result }
+    requires { (1 ≤ v.0) × ((v.0 ≤ (P.meaning plan.now).size) × (8 * v.0 ≤ length rows.now)) }
+    ensures { Earliest (known (P.meaning plan.now) rows.now) (at places.now) v.0 result }
 {
     let mut best = None;
     let mut last = Junction(0);
@@ -67,10 +67,10 @@ fn earliest<P: ReadablePlan>(
 
 // Joins p and u by fill, unless they are joined already; says whether.
 fn join<P: ReadablePlan>(plan: &P, rows: &mut [u64], p: Junction, u: Junction) -> bool
-    requires first { (1 ≤ p.0) × (p.0 ≤ (meaning plan.now).size) }
-    requires second { (1 ≤ u.0) × (u.0 ≤ (meaning plan.now).size) }
-    requires room { 8 * (meaning plan.now).size ≤ length rows.old }
-    ensures { Joins (meaning plan.now) p.0 u.0 rows.old result rows.new }
+    requires first { (1 ≤ p.0) × (p.0 ≤ (P.meaning plan.now).size) }
+    requires second { (1 ≤ u.0) × (u.0 ≤ (P.meaning plan.now).size) }
+    requires room { 8 * (P.meaning plan.now).size ≤ length rows.old }
+    ensures { Joins (P.meaning plan.now) p.0 u.0 rows.old result rows.new }
 {
     if plan.joined(p, u) || is_marked(rows, p, u) {
         return false;
@@ -87,12 +87,12 @@ fn take_over<P: ReadablePlan>(
     v: Junction,
     p: Junction,
 ) -> u32
-    requires table { Table (meaning plan.now).size rows.old }
-    requires first { (1 ≤ v.0) × (v.0 ≤ (meaning plan.now).size) }
-    requires second { (1 ≤ p.0) × (p.0 ≤ (meaning plan.now).size) }
+    requires table { Table (P.meaning plan.now).size rows.old }
+    requires first { (1 ≤ v.0) × (v.0 ≤ (P.meaning plan.now).size) }
+    requires second { (1 ≤ p.0) × (p.0 ≤ (P.meaning plan.now).size) }
     requires later { at places.now v.0 < at places.now p.0 }
-    ensures rows { TakesOver (meaning plan.now) (at places.now) v.0 p.0 rows.old rows.new }
-    ensures count { Adds (meaning plan.now) rows.old result rows.new }
+    ensures rows { TakesOver (P.meaning plan.now) (at places.now) v.0 p.0 rows.old rows.new }
+    ensures count { Adds (P.meaning plan.now) rows.old result rows.new }
 {
     let mut added = 0;
     let mut last = Junction(0);
@@ -112,10 +112,10 @@ pub(crate) fn eliminate<P: ReadablePlan>(
     rows: &mut [u64],
     v: Junction,
 ) -> u32
-    requires table { Table (meaning plan.now).size rows.old }
-    requires junction { (1 ≤ v.0) × (v.0 ≤ (meaning plan.now).size) }
-    ensures rows { Eliminates (meaning plan.now) (at places.now) v.0 rows.old rows.new }
-    ensures count { Adds (meaning plan.now) rows.old result rows.new }
+    requires table { Table (P.meaning plan.now).size rows.old }
+    requires junction { (1 ≤ v.0) × (v.0 ≤ (P.meaning plan.now).size) }
+    ensures rows { Eliminates (P.meaning plan.now) (at places.now) v.0 rows.old rows.new }
+    ensures count { Adds (P.meaning plan.now) rows.old result rows.new }
 {
     match earliest(plan, places, rows, v) {
         Some(p) => take_over(plan, places, rows, v, p),

@@ -1,5 +1,7 @@
 //! The image of a plan: reading one, and writing one.
 
+#![tactic(auto)]
+
 mod chains;
 mod checked;
 mod fields;

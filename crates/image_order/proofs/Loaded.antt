@@ -1,23 +1,22 @@
 -- A sound image loaded into a new set of its n, and then an order: the order is that of the image's plan.
-use Rattle.std.proofs.Common.{◌≡◌, ℕ, ◌+◌, ◌*◌, ◌≤◌, Bool, true, false, not, ◌&&◌, ◌||◌, ltb, List, [], ◌∷◌, Ok, Err, Result, sym, refl, ap, ◌∙◌, subst, true≢false, arith}
+use Rattle.std.proofs.Common.{◌≡◌, ℕ, ◌+◌, ◌≤◌, Bool, true, false, not, ◌&&◌, ◌||◌, ltb, List, [], ◌∷◌, Ok, Err, Result, sym, refl, ap, ◌∙◌, subst, true≢false, arith}
 use Rattle.std.proofs.lemmas.Bool.{le-ltb, ltb-false}
 use Rattle.std.specs.declared.convert.Infallible.{Infallible}
 use Rattle.plan.specs.Plans.{Plan, Sound, within, blank}
-use Rattle.plan.specs.Refusals.{Verdict, carried, refused, checked, after}
+use Rattle.plan.specs.Refusals.{Verdict, carried, checked, after}
 use Rattle.plan.proofs.Pipes.{within_parts}
 use Rattle.plan.proofs.Verdicts.{all_passed}
 use Rattle.chained.specs.Making.{new_verdict}
 use Rattle.label.specs.Sets.{no_marks, with_mark, compared_sets}
 use Rattle.label.specs.declared.lexicographic.Lexicographic.{Lexicographic}
-use Rattle.image.specs.Chains.{plan_of}
 use Rattle.image.specs.Images.{image_of}
 use Rattle.image.specs.Reading.{read_verdict, is_carried}
 use Rattle.image.specs.Sounds.{within_from}
 use Rattle.order.specs.Reports as report
 use Rattle.set.specs.Ledgers.{Ledger, seen, clear, opened, load_checks, with_loaded, then}
 use Rattle.set.proofs.Clears.{clear_all}
-use Rattle.set.proofs.Loads.{Loadable, load_passes, load_laws}
-use Rattle.calls.specs.Deeds.{Deed, loads, orders, next}
+use Rattle.set.proofs.Loads.{load_passes, load_laws}
+use Rattle.calls.specs.Deeds.{loads, orders, next}
 use Rattle.calls.specs.Heard.{Heard, Lists, said}
 use Rattle.calls.specs.Runs.{Answered, Ran, RanOrFailed, ChangeHeard, OrderHeard}
 use Rattle.calls.specs.declared.answer.Answer.{Answer}

@@ -1,5 +1,7 @@
 //! The order of the plan that an image stands for.
 
+#![tactic(auto)]
+
 mod call;
 mod first;
 

@@ -1,5 +1,5 @@
 -- A plan seen through a layer that has some junctions open and the others shut.
-use Rattle.std.specs.Prelude.{◌≡◌, ℕ, Bool, cond, not, ◌&&◌, List, [], ◌∷◌, ◌==◌}
+use Rattle.std.specs.Prelude.{ℕ, Bool, cond, not, ◌&&◌, [], ◌∷◌, ◌==◌}
 use Rattle.plan.specs.Plans.{Plan, within}
 use Rattle.plan.specs.Refusals.{Verdict, checked}
 use Rattle.plan.specs.Registers.{outside}

@@ -1,14 +1,13 @@
 -- What the layer shows of the plan below it.
-use Rattle.std.specs.Prelude.{◌≡◌, ℕ, ◌+◌, ◌-◌, ◌<◌, ◌≤◌, Bool, true, false, cond, not, ◌&&◌, ◌||◌, ◌⊎◌, List, [], ◌∷◌, ◌==◌, refl}
-use Rattle.std.proofs.Common.{sym, ap, ap₂, ◌∙◌, inl, inr, ⊎_elim, arith}
-use Rattle.std.proofs.Math.Path.{fun_ext}
+use Rattle.std.specs.Prelude.{◌≡◌, ℕ, ◌+◌, ◌-◌, Bool, true, false, cond, not, ◌&&◌, ◌||◌, ◌⊎◌, [], ◌∷◌, ◌==◌, refl}
+use Rattle.std.proofs.Common.{sym, ap, ap₂, ◌∙◌, inl, inr, arith}
 use Rattle.std.proofs.Math.Bool.{and_comm, and_assoc}
-use Rattle.std.proofs.lemmas.Bool.{cases_eq, cases_Bool, and_parts, and_from, and_left, and_right}
+use Rattle.std.proofs.lemmas.Bool.{cases_Bool, and_parts}
 use Rattle.std.proofs.lemmas.Bool.Decides.{nat_tests}
-use Rattle.plan.specs.Plans.{Plan, Sound, within}
+use Rattle.plan.specs.Plans.{Plan, Sound}
 use Rattle.plan.specs.Refusals.{Verdict, carried, refused, after, checked}
 use Rattle.plan.specs.Registers.{Joins, Cuts, join_verdict, cut_verdict, with_pipe, without_pipe, same_pair, outside, unserved}
-use Rattle.plan.proofs.Verdicts.{Usable, join_passed, cut_passed}
+use Rattle.plan.proofs.Verdicts.{Usable, join_passed}
 use Rattle.isolation.specs.Layers.{through, isolates_pair}
 
 module _ (p : Plan) (o : ℕ → Bool) where

@@ -1,5 +1,7 @@
 //! The isolation layer: any register, with junctions shut and opened above it.
 
+#![tactic(auto)]
+
 mod layer;
 mod state;
 

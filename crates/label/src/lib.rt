@@ -1,6 +1,8 @@
 //! The labels by which a search ranks the vertices that it has not yet numbered: what a kind of
 //! label has to keep, and the kinds there are.
 
+#![tactic(auto)]
+
 mod apart;
 mod counting;
 mod either;

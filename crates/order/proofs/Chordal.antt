@@ -1,14 +1,11 @@
 -- An order without fill, and rings.
-use Rattle.std.proofs.Common.{◌≡◌, ℕ, zero, suc, ◌+◌, ◌-◌, ◌<◌, ◌≤◌, Bool, true, false, ◌⊎◌, ◌↔◌, List, map, sym, refl, ap, ◌∙◌, ap₂, inl, inr, arith}
-use Rattle.std.specs.List.{range_with_len}
+use Rattle.std.proofs.Common.{◌≡◌, ℕ, ◌+◌, ◌-◌, ◌<◌, ◌≤◌, true, false, ◌⊎◌, List, sym, refl, ◌∙◌, inl, inr, arith}
 use Rattle.std.proofs.lemmas.Bool.{cases_eq, cases_lt, cases_Bool, both_ways}
-use Rattle.plan.specs.Orders.{ordered, place}
+use Rattle.plan.specs.Orders.{place}
 use Rattle.plan.specs.Plans.{Plan, Sound}
-use Rattle.plan.proofs.Orders.{IsOrder, order_of, at_place, place_apart}
-use Rattle.elimination.specs.Elimination.{fill}
+use Rattle.plan.proofs.Orders.{IsOrder, at_place, place_apart}
 use Rattle.elimination.specs.Laws.{Perfect}
-use Rattle.elimination.proofs.Laws.{no_fill_law_lem}
-use Rattle.ring.specs.Rings.{Ring, NoRing}
+use Rattle.ring.specs.Rings.{NoRing}
 use Rattle.ring.proofs.Rounds.{Round, round_of_ring, ring_of_round}
 use Rattle.ring.proofs.Turning.{lowest}
 use Rattle.order.proofs.Bridges.{Witness, round_from_later}

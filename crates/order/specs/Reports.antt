@@ -1,11 +1,10 @@
 -- What an order call answers, and what it leaves in the memory that it was handed.
-use Rattle.std.specs.Prelude.{◌≡◌, ℕ, ◌*◌, ◌<◌, ◌≤◌, Bool, true, false, ◌||◌, ◌↔◌, List, [], ◌∷◌, length, take, Ok, Err, Result, nat_lt, slice_index}
+use Rattle.std.specs.Prelude.{◌≡◌, ℕ, ◌*◌, ◌<◌, ◌≤◌, Bool, true, false, ◌||◌, ◌↔◌, List, length, take, Ok, Err, Result, nat_lt, slice_index}
 use Rattle.std.specs.declared.cmp.Ordering.{Ordering}
 use Rattle.plan.specs.declared.number.Junction.{Junction}
 use Rattle.plan.specs.declared.refusal.Refusal.{Refusal}
 use Rattle.plan.specs.Orders.{numbers, ordered}
 use Rattle.plan.specs.Plans.{Plan, pairs}
-use Rattle.plan.specs.Refusals.{Verdict, checked}
 use Rattle.plan.specs.Memory.{KeptFrom}
 use Rattle.search.specs.Rule.{Searched}
 use Rattle.elimination.specs.Elimination.{fill, cells}

@@ -1,5 +1,7 @@
 //! Loads an image and prints the order of its plan, or why it is turned down.
 
+#![tactic(auto)]
+
 #[cfg(test)]
 mod tests;
 

@@ -1,5 +1,5 @@
 -- An order of elimination: a list of junctions, the one at place 1 first.
-use Rattle.std.specs.Prelude.{◌≡◌, ℕ, zero, suc, ◌+◌, ◌<◌, ◌≤◌, Bool, true, cond, ◌&&◌, List, [], ◌∷◌, map, length, ◌==◌}
+use Rattle.std.specs.Prelude.{ℕ, zero, suc, ◌+◌, Bool, true, cond, ◌&&◌, List, [], ◌∷◌, map, length, ◌==◌}
 use Rattle.plan.specs.declared.number.Junction.{Junction}
 
 -- the numbers of a list of junctions

@@ -1,5 +1,5 @@
 -- A pipe plan as a value, and the four questions that a readable plan answers.
-use Rattle.std.specs.Prelude.{◌≡◌, ℕ, zero, suc, ◌+◌, ◌<◌, ◌≤◌, Bool, true, false, cond, not, ◌&&◌, ◌||◌, Some, None, Option, nat_le}
+use Rattle.std.specs.Prelude.{◌≡◌, ℕ, zero, suc, ◌+◌, ◌<◌, ◌≤◌, Bool, true, false, cond, ◌&&◌, Some, None, Option, nat_le}
 use Rattle.plan.specs.declared.number.Junction.{Junction}
 
 -- a plan: its junctions are 1 to size, serves says which are in service, and joins which pairs have a pipe

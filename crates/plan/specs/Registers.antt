@@ -1,5 +1,5 @@
 -- A register means a plan and a spare, the number of pipes that it can still take. Joining and cutting, with their checks in order.
-use Rattle.std.specs.Prelude.{◌≡◌, ℕ, ◌+◌, ◌-◌, Bool, true, false, not, ◌&&◌, ◌||◌, List, [], ◌∷◌, ◌==◌}
+use Rattle.std.specs.Prelude.{◌≡◌, ℕ, ◌+◌, ◌-◌, Bool, not, ◌&&◌, ◌||◌, [], ◌∷◌, ◌==◌}
 use Rattle.plan.specs.Plans.{Plan, within}
 use Rattle.plan.specs.Refusals.{Verdict, checked, after}
 

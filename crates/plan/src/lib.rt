@@ -1,6 +1,8 @@
 //! The vocabulary of the library: junction numbers and places, refusals, and the traits of a
 //! readable plan and of a register.
 
+#![tactic(auto)]
+
 mod number;
 mod readable;
 mod refusal;

@@ -1,4 +1,7 @@
 //! A visit at the edge of a program: the sheet comes from its input, and the listing is printed.
+
+#![tactic(auto)]
+
 ghost use Rattle.std.specs.Prelude.{List};
 ghost use Rattle.calls.specs.Heard.{Heard};
 

@@ -1,11 +1,11 @@
 -- Where the search finds nothing there is no ring.
-use Rattle.std.proofs.Common.{◌≡◌, ℕ, zero, suc, ◌+◌, ◌-◌, ◌<◌, ◌≤◌, Bool, true, false, ◌⊎◌, List, Some, None, sym, refl, ap, ◌∙◌, ap₂, inl, inr, arith}
+use Rattle.std.proofs.Common.{◌≡◌, ℕ, zero, suc, ◌+◌, ◌-◌, ◌<◌, ◌≤◌, true, false, ◌⊎◌, Some, None, sym, refl, ap, ◌∙◌, ap₂, inl, inr, arith}
 use Rattle.std.proofs.lemmas.Bool.{cases_eq, cases_lt, both_ways}
 use Rattle.plan.specs.Plans.{Plan, Sound, NextNeighbour}
 use Rattle.plan.specs.declared.number.Junction.{Junction}
 use Rattle.ring.specs.Reach.{Open, Queue, Spread}
-use Rattle.ring.specs.Rings.{Ring, NoRing}
-use Rattle.ring.proofs.Rounds.{Round, round_of_ring}
+use Rattle.ring.specs.Rings.{NoRing}
+use Rattle.ring.proofs.Rounds.{round_of_ring}
 use Rattle.ring.proofs.Turning.{Directed, directed}
 
 -- no ring has v as its lowest junction, a as the lower of v's neighbours in it, and c as the other

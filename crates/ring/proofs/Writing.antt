@@ -1,17 +1,15 @@
 -- A ring written down from its end.
-use Rattle.std.proofs.Common.{◌≡◌, ℕ, zero, suc, ◌+◌, ◌-◌, ◌<◌, ◌≤◌, Bool, true, false, cond, ◌≢◌, ◌⊎◌, List, length, get_or, take, set, sym, refl, ap, ◌∙◌, ap₂, inl, inr, arith}
+use Rattle.std.proofs.Common.{◌≡◌, ℕ, suc, ◌+◌, ◌-◌, ◌<◌, ◌≤◌, ◌⊎◌, List, length, get_or, take, set, sym, refl, ap, ◌∙◌, inl, inr, arith}
 use Rattle.std.proofs.lemmas.List.{get_or-set_same, get_or-set_other, length-set, get_or-take, length-take-le}
-use Rattle.std.proofs.lemmas.Bool.{cases_eq, cases_lt}
+use Rattle.std.proofs.lemmas.Bool.{cases_eq}
 use Rattle.plan.specs.Orders.{numbers}
 use Rattle.plan.specs.Plans.{Plan, Sound}
 use Rattle.plan.specs.declared.number.Junction.{Junction}
 use Rattle.plan.proofs.Numbers.{getD_numbers, length-numbers}
-use Rattle.plan.specs.Memory.{KeptFrom}
 use Rattle.ring.specs.Calls.{Lists}
 use Rattle.ring.specs.Reach.{Corner, Queue, back}
-use Rattle.ring.specs.Rings.{Ring, Listed}
 use Rattle.ring.proofs.Closing.{Closes, ringed, ringed_path, ringed_last, ring_round, ring_lowest, ring_towards, ring_fits}
-use Rattle.ring.proofs.Rounds.{Round, ring_from_reads}
+use Rattle.ring.proofs.Rounds.{ring_from_reads}
 
 -- the places from i on hold the path, up to depth + 1, and the others are as before; at is the index for place i - 1
 pub record Written (q m : ℕ → ℕ) (top depth i at : ℕ) (before after : List Junction) : Type 0 where

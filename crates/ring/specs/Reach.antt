@@ -1,5 +1,5 @@
 -- The breadth-first search around a junction v, from its neighbour a.
-use Rattle.std.specs.Prelude.{◌≡◌, ℕ, zero, suc, ◌+◌, ◌-◌, ◌<◌, ◌≤◌, Bool, true, false, not, List, Some, None, Option, ◌==◌, ◌≢◌, slice_index}
+use Rattle.std.specs.Prelude.{◌≡◌, ℕ, zero, suc, ◌+◌, ◌-◌, ◌<◌, ◌≤◌, true, false, not, List, Some, None, Option, ◌==◌, ◌≢◌, slice_index}
 use Rattle.plan.specs.Plans.{Plan, count}
 
 -- scratch holds the queue of reached junctions, and behind it for each of the n junctions 0, or one more than the queue index of its forerunner

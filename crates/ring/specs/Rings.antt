@@ -1,5 +1,5 @@
 -- Rings of a plan: chordless cycles of four or more junctions.
-use Rattle.std.specs.Prelude.{◌≡◌, ℕ, suc, ◌+◌, ◌<◌, ◌≤◌, Bool, ◌&&◌, ◌||◌, List, length, ◌==◌, ◌≢◌, slice_index}
+use Rattle.std.specs.Prelude.{◌≡◌, ℕ, suc, ◌<◌, ◌≤◌, Bool, ◌&&◌, ◌||◌, List, length, ◌==◌, ◌≢◌, slice_index}
 use Rattle.plan.specs.Plans.{Plan}
 
 -- of k junctions in a row that closes to a ring, those at i and j, i below j, are next to each other

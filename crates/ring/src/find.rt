@@ -16,8 +16,8 @@ pub fn find_ring<P: ReadablePlan>(
     ring: &mut [Junction],
     scratch: &mut [u16],
 ) -> Result<u16, Refusal>
-    ensures verdict { heard result ≡ checked ((short (meaning plan.now).size ring.old scratch.old, 8) ∷ []) }
-    ensures left { FindRing (meaning plan.now) result ring.old scratch.old ring.new scratch.new }
+    ensures verdict { heard result ≡ checked ((short (P.meaning plan.now).size ring.old scratch.old, 8) ∷ []) }
+    ensures left { FindRing (P.meaning plan.now) result ring.old scratch.old ring.new scratch.new }
 {
     let n = plan.size();
     if ring.len() < n as usize || scratch.len() < 2 * n as usize {

@@ -4,6 +4,8 @@
 //! breadth-first search from a, through junctions above v that are not joined to v, reaches a
 //! junction that is joined to the other neighbour, c.
 
+#![tactic(auto)]
+
 mod find;
 mod list;
 mod reach;

@@ -16,11 +16,11 @@ pub(crate) fn list_ring<P: ReadablePlan>(
     ring: &mut [Junction],
     scratch: &[u16],
 ) -> u16
-    requires room { ((meaning plan.now).size ≤ length ring.old) × (2 * (meaning plan.now).size ≤ length scratch.now) }
-    requires corner { Corner (meaning plan.now) v.0 (queue scratch.now 0) c.0 }
-    requires queue { Queue (meaning plan.now) v.0 (queue scratch.now 0) size (queue scratch.now) (mark (meaning plan.now).size scratch.now) }
-    requires meets { Meets (meaning plan.now) c.0 size (queue scratch.now) (Some top) }
-    ensures { Lists (meaning plan.now) ring.old result ring.new }
+    requires room { ((P.meaning plan.now).size ≤ length ring.old) × (2 * (P.meaning plan.now).size ≤ length scratch.now) }
+    requires corner { Corner (P.meaning plan.now) v.0 (queue scratch.now 0) c.0 }
+    requires queue { Queue (P.meaning plan.now) v.0 (queue scratch.now 0) size (queue scratch.now) (mark (P.meaning plan.now).size scratch.now) }
+    requires meets { Meets (P.meaning plan.now) c.0 size (queue scratch.now) (Some top) }
+    ensures { Lists (P.meaning plan.now) ring.old result ring.new }
 {
     let n = plan.size() as usize;
     let depth = path_length(plan, v, size, top, scratch);
@@ -53,11 +53,11 @@ fn path_length<P: ReadablePlan>(
     top: usize,
     scratch: &[u16],
 ) -> usize
-    requires room { (2 * (meaning plan.now).size ≤ length scratch.now) × (top < size) }
-    requires queue { Queue (meaning plan.now) v.0 (queue scratch.now 0) size (queue scratch.now) (mark (meaning plan.now).size scratch.now) }
+    requires room { (2 * (P.meaning plan.now).size ≤ length scratch.now) × (top < size) }
+    requires queue { Queue (P.meaning plan.now) v.0 (queue scratch.now 0) size (queue scratch.now) (mark (P.meaning plan.now).size scratch.now) }
     ensures bound { result ≤ top }
-    ensures front { back (queue scratch.now) (mark (meaning plan.now).size scratch.now) top result ≡ 0 }
-    ensures before { (j : ℕ) → j < result → 0 < back (queue scratch.now) (mark (meaning plan.now).size scratch.now) top j }
+    ensures front { back (queue scratch.now) (mark (P.meaning plan.now).size scratch.now) top result ≡ 0 }
+    ensures before { (j : ℕ) → j < result → 0 < back (queue scratch.now) (mark (P.meaning plan.now).size scratch.now) top j }
 {
     let n = plan.size() as usize;
     let mut at = top;

@@ -17,11 +17,11 @@ pub(crate) fn reach<P: ReadablePlan>(
     a: Junction,
     scratch: &mut [u16],
 ) -> usize
-    requires room { 2 * (meaning plan.now).size ≤ length scratch.old }
-    requires above { (v.0 < a.0) × ((meaning plan.now).joins v.0 a.0 ≡ true) }
-    ensures queue { Queue (meaning plan.now) v.0 a.0 result (queue scratch.new) (mark (meaning plan.now).size scratch.new) }
-    ensures spread { Spread (meaning plan.now) v.0 result (queue scratch.new) (mark (meaning plan.now).size scratch.new) }
-    ensures behind { KeptFrom (2 * (meaning plan.now).size) scratch.old scratch.new }
+    requires room { 2 * (P.meaning plan.now).size ≤ length scratch.old }
+    requires above { (v.0 < a.0) × ((P.meaning plan.now).joins v.0 a.0 ≡ true) }
+    ensures queue { Queue (P.meaning plan.now) v.0 a.0 result (queue scratch.new) (mark (P.meaning plan.now).size scratch.new) }
+    ensures spread { Spread (P.meaning plan.now) v.0 result (queue scratch.new) (mark (P.meaning plan.now).size scratch.new) }
+    ensures behind { KeptFrom (2 * (P.meaning plan.now).size) scratch.old scratch.new }
 {
     let n = plan.size() as usize;
     start(n, a, scratch);
@@ -58,14 +58,14 @@ fn spread<P: ReadablePlan>(
     size: usize,
     scratch: &mut [u16],
 ) -> usize
-    requires room { 2 * (meaning plan.now).size ≤ length scratch.old }
+    requires room { 2 * (P.meaning plan.now).size ≤ length scratch.old }
     requires inside { head < size }
-    requires queue { Queue (meaning plan.now) v.0 (queue scratch.old 0) size (queue scratch.old) (mark (meaning plan.now).size scratch.old) }
-    requires spread { Spread (meaning plan.now) v.0 head (queue scratch.old) (mark (meaning plan.now).size scratch.old) }
+    requires queue { Queue (P.meaning plan.now) v.0 (queue scratch.old 0) size (queue scratch.old) (mark (P.meaning plan.now).size scratch.old) }
+    requires spread { Spread (P.meaning plan.now) v.0 head (queue scratch.old) (mark (P.meaning plan.now).size scratch.old) }
     ensures grows { size ≤ result }
-    ensures queue { Queue (meaning plan.now) v.0 (queue scratch.old 0) result (queue scratch.new) (mark (meaning plan.now).size scratch.new) }
-    ensures spread { Spread (meaning plan.now) v.0 (head + 1) (queue scratch.new) (mark (meaning plan.now).size scratch.new) }
-    ensures behind { KeptFrom (2 * (meaning plan.now).size) scratch.old scratch.new }
+    ensures queue { Queue (P.meaning plan.now) v.0 (queue scratch.old 0) result (queue scratch.new) (mark (P.meaning plan.now).size scratch.new) }
+    ensures spread { Spread (P.meaning plan.now) v.0 (head + 1) (queue scratch.new) (mark (P.meaning plan.now).size scratch.new) }
+    ensures behind { KeptFrom (2 * (P.meaning plan.now).size) scratch.old scratch.new }
 {
     let n = plan.size() as usize;
     let u = Junction(scratch[head]);
@@ -91,7 +91,7 @@ pub(crate) fn meeting<P: ReadablePlan>(
     scratch: &[u16],
 ) -> Option<usize>
     requires { size ≤ length scratch.now }
-    ensures { Meets (meaning plan.now) c.0 size (queue scratch.now) result }
+    ensures { Meets (P.meaning plan.now) c.0 size (queue scratch.now) result }
 {
     for i in 0..size {
         if plan.joined(Junction(scratch[i]), c) {

@@ -3,8 +3,7 @@ use Rattle.std.proofs.Common.{◌≡◌, ℕ, suc, List, [], ◌∷◌, get_or, 
 use Rattle.label.specs.declared.either.Either.TheVariants as kind
 use Rattle.label.specs.declared.either.EitherLabel.TheVariants.{First, Second}
 use Rattle.label.specs.Eithers.{raised_either}
-use Rattle.plan.specs.Plans.{Plan}
-use Rattle.search.specs.Rule.{Searched, marks}
+use Rattle.search.specs.Rule.{marks}
 use Rattle.search.specs.Theorems.{ByFirst, BySecond}
 
 module _ {A B X Y : Type 0} (bf : A → X) (bg : B → Y) (rf : A → X → ℕ → X) (rg : B → Y → ℕ → Y) (cf : A → X → X → Ordering) (cg : B → Y → Y → Ordering) where

@@ -1,6 +1,8 @@
 //! One search for every readable plan and every kind of label: it orders the junctions of a plan
 //! for vertex elimination.
 
+#![tactic(auto)]
+
 mod either_search;
 mod examples;
 mod late_neighbour;

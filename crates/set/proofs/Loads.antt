@@ -9,7 +9,7 @@ use Rattle.plan.proofs.Verdicts.{all_passed, carried≢refused}
 use Rattle.image.specs.Chains.{pipe, plan_of}
 use Rattle.image.specs.Images.{Image, image_of}
 use Rattle.image.specs.Laws.{SoundLaws}
-use Rattle.image.specs.Ranges.{each, some}
+use Rattle.image.specs.Ranges.{some}
 use Rattle.image.specs.Reading.{read_verdict, has_record}
 use Rattle.image.specs.RangesLemmas.{some-none}
 use Rattle.image.specs.SoundImages.{sound_laws, record_present}

@@ -1,10 +1,10 @@
 -- From a call on the layer to the step of the ledger.
-use Rattle.std.proofs.Common.{◌≡◌, ℕ, ◌+◌, ◌-◌, Bool, not, sym, refl, ap, ◌∙◌}
+use Rattle.std.proofs.Common.{◌≡◌, ℕ, ◌+◌, ◌-◌, Bool, not, sym, ap, ◌∙◌}
 use mathlib.Core.Path.{fun_ext}
 use mathlib.Core.Bool.{not-not}
 use Rattle.plan.specs.Plans.{Plan}
 use Rattle.plan.specs.Refusals.{Verdict, carried, refused, after}
-use Rattle.plan.specs.Registers.{Joins, Cuts, join_verdict, cut_verdict, with_pipe, without_pipe}
+use Rattle.plan.specs.Registers.{Joins, Cuts, with_pipe, without_pipe}
 use Rattle.isolation.specs.Layers.{through}
 use Rattle.set.specs.Ledgers.{Ledger, seen, with_joined, with_cut}
 

@@ -1,5 +1,7 @@
 //! A set: an isolation layer over any register, with the calls of a visit.
 
+#![tactic(auto)]
+
 mod laws;
 mod load;
 mod set;

@@ -1,5 +1,7 @@
 //! The visit sheet: lines of bytes, their fields, and the calls that they spell.
 
+#![tactic(auto)]
+
 mod call;
 mod field;
 mod laws;

@@ -47,10 +47,10 @@ module _ (tight : ℕ → Bool) (spare : ℕ → ℕ) (full : ℕ → Bool) wher
 
   -- lines from the first on: all of them where the listener did not fail
   abbrev pub LinesHeard : {E : Type 0} → Stage → Lists → List ℕ → Lists → (List Heard → Type 0) → (List Heard → Type 0) → Stage → Result Unit E → Type 0
-  LinesHeard s before text (λ x. x.now) log log' t (Ok u) =
-      (hs : List Heard) × Visited tight spare full s before (lines text) hs t × ((λ x. x.now) ≡ last_lists before hs) × Told log log' hs
-  LinesHeard s before text (λ x. x.now) log log' t (Err e) =
-      (done : List (List ℕ)) × (more : List (List ℕ)) × (hs : List Heard) × (lines text ≡ done ++ more) × Visited tight spare full s before done hs t × ((λ x. x.now) ≡ last_lists before hs) × Told log log' hs
+  LinesHeard s before text last log log' t (Ok u) =
+      (hs : List Heard) × Visited tight spare full s before (lines text) hs t × (last ≡ last_lists before hs) × Told log log' hs
+  LinesHeard s before text last log log' t (Err e) =
+      (done : List (List ℕ)) × (more : List (List ℕ)) × (hs : List Heard) × (lines text ≡ done ++ more) × Visited tight spare full s before done hs t × (last ≡ last_lists before hs) × Told log log' hs
 
   -- the lines up to a set that was made, with the rest of the sheet; or all lines, none of which made one; no answer list is written
   abbrev pub OpenedOf : {R : Type 0} → (R → Plan) → (R → ℕ) → Lists → List ℕ → (List Heard → Type 0) → (List Heard → Type 0) → Opened R → Type 0

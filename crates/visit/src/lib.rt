@@ -1,5 +1,7 @@
 //! A visit: a sheet of calls carried out, line by line, on a set over any register.
 
+#![tactic(auto)]
+
 mod listing;
 mod maker;
 mod run;

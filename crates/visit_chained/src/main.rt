@@ -1,4 +1,7 @@
 //! A visit over the chained register: reads a sheet, prints the listing.
+
+#![tactic(auto)]
+
 ghost use Rattle.std.specs.Prelude.{◌+◌, vec_len, nat_lt};
 
 use chained::ChainedRegister;

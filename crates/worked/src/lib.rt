@@ -1,5 +1,8 @@
 //! Small plans worked through to the end, all together: what the search, the fill, a join and an
 //! image come to on them follows from the definitions alone.
+
+#![tactic(auto)]
+
 ghost use Rattle.std.specs.Prelude.{◌≡◌};
 ghost use Rattle.worked.specs.Worked.{NotSearched, WorkedPlans};
 

@@ -14,3 +14,6 @@ returns-in-Ok g c = record {
   scratch = c.in-Ok.ensures.left.2;
   idle = rw c.in-Order.is (λ h. absurd (carried≢refused _ _ (sym (rw h at c.in-Ok.ensures.verdict))));
 }
+
+pub returns-in-Load-clause-ledger : goal.returns-in-Load-clause-ledger
+returns-in-Load-clause-ledger g c = rw c.in-Load.is (rw c.load.ensures.answer at c.load.ensures.ledger)

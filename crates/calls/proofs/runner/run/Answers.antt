@@ -1,4 +1,4 @@
-use Rattle.std.proofs.Common.{◌≡◌, ℕ, ◌*◌, Bool, List, [], ◌++◌, map, length, take, sym, refl, ap, ◌∙◌, subst, arith}
+use Rattle.std.proofs.Common.{◌≡◌, ℕ, ◌*◌, Bool, List, [], ◌++◌, map, take, sym, refl, ap, ◌∙◌, subst, arith}
 use Rattle.std.proofs.lemmas.List.{append-nil, append_assoc, length-map, take_all}
 use Rattle.order.specs.Reports.{short}
 use Rattle.set.specs.Kept.{ledger}
@@ -27,14 +27,14 @@ returns-in-Err g c =
     let same = short_same _ _ _ _ _ _ _ _ _ _ _ _ size c.loop-call.auto.places c.loop-call.auto.ring c.loop-call.auto.rows c.loop-call.auto.labels c.loop-call.auto.scratch in
     let d = ap (λ (b : Bool). deed b c.call-item.result) same in
     let more = take-map-next (deed (short (g.R.ReadablePlan.meaning c.args.set.now.layer.below).size c.args.places.now c.args.ring.now c.args.rows.now c.args.labels.now c.args.scratch.now)) c.args.calls.now c.loop-call.call-index c.call-item.result c.call-item.is c.loop-call-test.true in
-    let ran = ran_next _ _ _ _ _ _ _ _ _ _ _ _ _ _ inv.0.ran more d c.carry-out-answer.ensures.answered c.carry-out-answer.ensures.ledger in
+    let ran = ran_next _ _ _ _ _ _ _ _ _ _ _ _ _ _ inv.0.ran more d c.carry_out-answer.ensures.answered c.carry_out-answer.ensures.ledger in
     record {
       new = new-started (ledger g.R.ReadablePlan.meaning g.R.Register.left c.args.set.now);
       kept = (c.loop-call.call-index, omega (arith, c.loop-call-test.true, length-map c.args.calls.now (deed (short (g.R.ReadablePlan.meaning c.args.set.now.layer.below).size c.args.places.now c.args.ring.now c.args.rows.now c.args.labels.now c.args.scratch.now))), _, ran, (λ old h. subst (λ (xs : List Heard). g.L.Listener.log c.hear.new.self xs) (append_assoc old inv.0.answers _) (c.hear.ensures (old ++ inv.0.answers) (inv.0.told old h))));
-      labels = kept-both _ _ _ _ _ size inv.1 c.carry-out-answer.ensures.labels;
-      scratch = kept-both _ _ _ _ _ (ap (λ (n : ℕ). 2 * n) size) inv.2 c.carry-out-answer.ensures.scratch;
+      labels = kept-both _ _ _ _ _ size inv.1 c.carry_out-answer.ensures.labels;
+      scratch = kept-both _ _ _ _ _ (ap (λ (n : ℕ). 2 * n) size) inv.2 c.carry_out-answer.ensures.scratch;
       idle = λ h.
-          (let now = c.carry-out-answer.ensures.idle (ap idle d ∙ idle-at (deed (short (g.R.ReadablePlan.meaning c.args.set.now.layer.below).size c.args.places.now c.args.ring.now c.args.rows.now c.args.labels.now c.args.scratch.now)) c.args.calls.now c.loop-call.call-index c.call-item.result h c.call-item.is c.loop-call-test.true) in
+          (let now = c.carry_out-answer.ensures.idle (ap idle d ∙ idle-at (deed (short (g.R.ReadablePlan.meaning c.args.set.now.layer.below).size c.args.places.now c.args.ring.now c.args.rows.now c.args.labels.now c.args.scratch.now)) c.args.calls.now c.loop-call.call-index c.call-item.result h c.call-item.is c.loop-call-test.true) in
           let was = inv.3 h in
           (now.0 ∙ was.0, now.1 ∙ was.1));
     }
@@ -46,12 +46,12 @@ loop-call-preserved g c =
     let same = short_same _ _ _ _ _ _ _ _ _ _ _ _ size c.loop-call.auto.places c.loop-call.auto.ring c.loop-call.auto.rows c.loop-call.auto.labels c.loop-call.auto.scratch in
     let d = ap (λ (b : Bool). deed b c.call-item.result) same in
     let more = take-map-next (deed (short (g.R.ReadablePlan.meaning c.args.set.now.layer.below).size c.args.places.now c.args.ring.now c.args.rows.now c.args.labels.now c.args.scratch.now)) c.args.calls.now c.loop-call.call-index c.call-item.result c.call-item.is c.loop-call-test.true in
-    let ran = ran_next _ _ _ _ _ _ _ _ _ _ _ _ _ _ inv.0.ran more d c.carry-out-answer.ensures.answered c.carry-out-answer.ensures.ledger in (
+    let ran = ran_next _ _ _ _ _ _ _ _ _ _ _ _ _ _ inv.0.ran more d c.carry_out-answer.ensures.answered c.carry_out-answer.ensures.ledger in (
       record { answers = _; ran = ran; told = λ old h. subst (λ (xs : List Heard). g.L.Listener.log c.hear.new.self xs) (append_assoc old inv.0.answers _) (c.hear.ensures (old ++ inv.0.answers) (inv.0.told old h)) },
-      kept-both _ _ _ _ _ size inv.1 c.carry-out-answer.ensures.labels,
-      kept-both _ _ _ _ _ (ap (λ (n : ℕ). 2 * n) size) inv.2 c.carry-out-answer.ensures.scratch,
+      kept-both _ _ _ _ _ size inv.1 c.carry_out-answer.ensures.labels,
+      kept-both _ _ _ _ _ (ap (λ (n : ℕ). 2 * n) size) inv.2 c.carry_out-answer.ensures.scratch,
       λ h.
-          (let now = c.carry-out-answer.ensures.idle (ap idle d ∙ idle-at (deed (short (g.R.ReadablePlan.meaning c.args.set.now.layer.below).size c.args.places.now c.args.ring.now c.args.rows.now c.args.labels.now c.args.scratch.now)) c.args.calls.now c.loop-call.call-index c.call-item.result h c.call-item.is c.loop-call-test.true) in
+          (let now = c.carry_out-answer.ensures.idle (ap idle d ∙ idle-at (deed (short (g.R.ReadablePlan.meaning c.args.set.now.layer.below).size c.args.places.now c.args.ring.now c.args.rows.now c.args.labels.now c.args.scratch.now)) c.args.calls.now c.loop-call.call-index c.call-item.result h c.call-item.is c.loop-call-test.true) in
           let was = inv.3 h in
           (now.0 ∙ was.0, now.1 ∙ was.1)),
     )

@@ -2,8 +2,8 @@ use Rattle.std.proofs.Common.{arith}
 use Rattle.elimination.proofs.Counting.{below_more, below_all, below_few}
 use Rattle.elimination.proofs.cells.neighbours_below.Goals as goal
 
-pub overflow-add-found : goal.overflow-add-found
-overflow-add-found g c =
+pub overflow_add-found : goal.overflow_add-found
+overflow_add-found g c =
     record { fits = omega (arith, below_few (g.met.P.ReadablePlan.sound c.args.plan.now) c.loop-v.invariant, c.requires) }
 
 pub loop-v-preserved : goal.loop-v-preserved
@@ -14,6 +14,6 @@ pub returns-then-v-w : goal.returns-then-v-w
 returns-then-v-w g c =
     below_all (g.met.P.ReadablePlan.sound c.args.plan.now) c.loop-v.invariant (λ x i j. c.in-Some.ensures.2 x i (omega (arith, j, c.if-v-w.true)))
 
-pub returns-in-default : goal.returns-in-default
-returns-in-default g c =
-    below_all (g.met.P.ReadablePlan.sound c.args.plan.now) c.loop-v.invariant (λ x i j. c.in-default.ensures x i)
+pub returns-in_default : goal.returns-in_default
+returns-in_default g c =
+    below_all (g.met.P.ReadablePlan.sound c.args.plan.now) c.loop-v.invariant (λ x i j. c.in_default.ensures x i)

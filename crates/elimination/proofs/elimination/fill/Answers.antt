@@ -23,8 +23,8 @@ eliminate-count-requires g c =
       junction = rw (getD_numbers c.args.order.now c.loop-v.v-index) at (o.each c.loop-v.v-index l);
     }
 
-pub overflow-add-count : goal.overflow-add-count
-overflow-add-count g c =
+pub overflow_add-count : goal.overflow_add-count
+overflow_add-count g c =
     record { fits = omega (arith, c.loop-v.invariant.counted, c.eliminate-count.ensures.count, pairs_few (found (g.P.ReadablePlan.meaning c.args.plan.now).size c.eliminate-count.new.rows) (g.P.ReadablePlan.meaning c.args.plan.now).size (g.met.P.ReadablePlan.sound c.args.plan.now).few) }
 
 pub loop-v-preserved : goal.loop-v-preserved

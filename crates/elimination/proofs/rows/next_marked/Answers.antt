@@ -5,11 +5,11 @@ use Rattle.elimination.proofs.rows.next_marked.Goals as goal
 in_row : (c : goal.In-Some) → c.in-Some.i < 512
 in_row c = (next_in_row c.args.rows.now c.args.v.0 c.requires.0 c.requires.1 c.args.w.0 c.in-Some.i c.in-Some.ensures).0
 
-pub overflow-cast-result : goal.overflow-cast-result
-overflow-cast-result c = record { fits = omega (arith, in_row c) }
+pub overflow_cast-result : goal.overflow_cast-result
+overflow_cast-result c = record { fits = omega (arith, in_row c) }
 
-pub overflow-add-result : goal.overflow-add-result
-overflow-add-result c = record { fits = omega (arith, in_row c) }
+pub overflow_add-result : goal.overflow_add-result
+overflow_add-result c = record { fits = omega (arith, in_row c) }
 
 pub returns-in-Some : goal.returns-in-Some
 returns-in-Some c =

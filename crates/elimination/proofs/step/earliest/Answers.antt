@@ -7,8 +7,8 @@ pub loop-u-init : goal.loop-u-init
 loop-u-init g c =
     earliest_none (g.P.ReadablePlan.meaning c.args.plan.now) (g.met.P.ReadablePlan.sound c.args.plan.now) c.args.rows.now (at c.args.places.now) c.args.v.0
 
-pub place-of-requires-in-Some : goal.place-of-requires-in-Some
-place-of-requires-in-Some g c =
+pub place_of-requires-in-Some : goal.place_of-requires-in-Some
+place_of-requires-in-Some g c =
     known_inside (g.P.ReadablePlan.meaning c.args.plan.now) (g.met.P.ReadablePlan.sound c.args.plan.now) c.args.rows.now c.args.v.0 c.in-Some.u.0 c.in-Some.ensures.1
 
 pub earlier-requires : goal.earlier-requires
@@ -18,8 +18,8 @@ earlier-requires g c =
       other = known_inside (g.P.ReadablePlan.meaning c.args.plan.now) (g.met.P.ReadablePlan.sound c.args.plan.now) c.args.rows.now c.args.v.0 c.in-Some.u.0 c.in-Some.ensures.1;
     }
 
-pub loop-u-smaller-then-place-of : goal.loop-u-smaller-then-place-of
-loop-u-smaller-then-place-of g c =
+pub loop-u-smaller-then-place_of : goal.loop-u-smaller-then-place_of
+loop-u-smaller-then-place_of g c =
     omega (arith, c.in-Some.ensures.0, (known_inside (g.P.ReadablePlan.meaning c.args.plan.now) (g.met.P.ReadablePlan.sound c.args.plan.now) c.args.rows.now c.args.v.0 c.in-Some.u.0 c.in-Some.ensures.1).1)
 
 pub loop-u-smaller : goal.loop-u-smaller

@@ -3,8 +3,8 @@ use Rattle.elimination.specs.Steps.{at}
 use Rattle.elimination.proofs.Parents.{known-size, eliminates_none}
 use Rattle.elimination.proofs.step.eliminate.Goals as goal
 
-pub take-over-requires : goal.take-over-requires
-take-over-requires g c =
+pub take_over-requires : goal.take_over-requires
+take_over-requires g c =
     record {
       table = c.requires.table;
       first = c.requires.junction;

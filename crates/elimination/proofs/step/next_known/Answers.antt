@@ -20,4 +20,4 @@ returns-in-None-default g c =
     let q = g.P.ReadablePlan.meaning c.args.plan.now in
     let none : NextNeighbour q c.args.v.0 c.args.w.0 None = rw c.in-None-default.is-0 at c.next.ensures in
     next_rest (q.joins c.args.v.0) (marked c.args.rows.now c.args.v.0) (known q c.args.rows.now c.args.v.0) (known_is q c.args.rows.now c.args.v.0 c.requires.1.0) c.args.w.0
-    c.next-marked.result none c.next-marked.ensures
+    c.next_marked.result none c.next_marked.ensures

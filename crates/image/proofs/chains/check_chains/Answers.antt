@@ -6,11 +6,11 @@ use Rattle.image.proofs.chains.check_chains.Goals as goal
 pub loop-v-init : goal.loop-v-init
 loop-v-init c = tally_starts (image_of c.args.bytes.now)
 
-pub returns-in-default : goal.returns-in-default
-returns-in-default c = tally_fails (image_of c.args.bytes.now) c.loop-v.v c.loop-v.reached (omega arith) (omega (arith, c.requires.size)) c.loop-v.invariant c.in-default.ensures
+pub returns-in_default : goal.returns-in_default
+returns-in_default c = tally_fails (image_of c.args.bytes.now) c.loop-v.v c.loop-v.reached (omega arith) (omega (arith, c.requires.size)) c.loop-v.invariant c.in_default.ensures
 
-pub overflow-add-reached : goal.overflow-add-reached
-overflow-add-reached c =
+pub overflow_add-reached : goal.overflow_add-reached
+overflow_add-reached c =
     let t : Tallied (image_of c.args.bytes.now) (c.loop-v.v + 1 - 1) (c.loop-v.reached + c.in-Some.passed) = tally_goes_on (image_of c.args.bytes.now) c.loop-v.v c.loop-v.reached c.in-Some.passed (omega arith) c.loop-v.invariant c.in-Some.ensures in
     let most : c.loop-v.reached + c.in-Some.passed ≤ (image_of c.args.bytes.now).records = tally_most (image_of c.args.bytes.now) (c.loop-v.v + 1 - 1) (c.loop-v.reached + c.in-Some.passed) t in
     omega (arith, c.requires.records, c.requires.most)

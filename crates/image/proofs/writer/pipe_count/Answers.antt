@@ -7,11 +7,11 @@ pub loop-v-init : goal.loop-v-init
 unfolding pipes_to
 loop-v-init g c = refl
 
-pub overflow-add-found : goal.overflow-add-found
-overflow-add-found g c =
+pub overflow_add-found : goal.overflow_add-found
+overflow_add-found g c =
     record {
-      fits = omega (arith, c.loop-v.invariant, c.upper-count.ensures, c.size-v-end.ensures.value, c.size-v-end.ensures.few, c.loop-v-test.true, pipes_to_next (g.P.ReadablePlan.meaning c.args.plan.now) c.loop-v.v c.loop-v.auto.v, pipes_to_few (g.P.ReadablePlan.meaning c.args.plan.now) (c.loop-v.v + 1 - 1) (omega (arith, c.size-v-end.ensures.value, c.size-v-end.ensures.few)) (omega (arith, c.size-v-end.ensures.value, c.loop-v-test.true)));
+      fits = omega (arith, c.loop-v.invariant, c.upper_count.ensures, c.size-v-end.ensures.value, c.size-v-end.ensures.few, c.loop-v-test.true, pipes_to_next (g.P.ReadablePlan.meaning c.args.plan.now) c.loop-v.v c.loop-v.auto.v, pipes_to_few (g.P.ReadablePlan.meaning c.args.plan.now) (c.loop-v.v + 1 - 1) (omega (arith, c.size-v-end.ensures.value, c.size-v-end.ensures.few)) (omega (arith, c.size-v-end.ensures.value, c.loop-v-test.true)));
     }
 
 pub loop-v-preserved : goal.loop-v-preserved
-loop-v-preserved g c = omega (arith, c.loop-v.invariant, c.upper-count.ensures, pipes_to_next (g.P.ReadablePlan.meaning c.args.plan.now) c.loop-v.v c.loop-v.auto.v)
+loop-v-preserved g c = omega (arith, c.loop-v.invariant, c.upper_count.ensures, pipes_to_next (g.P.ReadablePlan.meaning c.args.plan.now) c.loop-v.v c.loop-v.auto.v)

@@ -6,8 +6,8 @@ use Rattle.image.proofs.writer.upper_count.Goals as goal
 pub loop-w-init : goal.loop-w-init
 loop-w-init g c = (sym (uppers_none (g.P.ReadablePlan.meaning c.args.plan.now) c.args.v.0), omega arith, c.requires)
 
-pub overflow-add-found : goal.overflow-add-found
-overflow-add-found g c =
+pub overflow_add-found : goal.overflow_add-found
+overflow_add-found g c =
     let sound = g.met.P.ReadablePlan.sound c.args.plan.now in
     omega (arith, c.loop-w.invariant.0, c.loop-w.invariant.2, sound.few, uppers_most (g.P.ReadablePlan.meaning c.args.plan.now) c.args.v.0 c.loop-w.last.0)
 
@@ -18,4 +18,4 @@ loop-w-preserved g c =
 
 pub returns : goal.returns
 returns g c =
-    c.loop-w.invariant.0 ∙ sym (uppers_end (g.P.ReadablePlan.meaning c.args.plan.now) c.args.v.0 c.loop-w.last.0 (g.P.ReadablePlan.meaning c.args.plan.now).size c.loop-w.invariant.2 c.in-default.ensures)
+    c.loop-w.invariant.0 ∙ sym (uppers_end (g.P.ReadablePlan.meaning c.args.plan.now) c.args.v.0 c.loop-w.last.0 (g.P.ReadablePlan.meaning c.args.plan.now).size c.loop-w.invariant.2 c.in_default.ensures)

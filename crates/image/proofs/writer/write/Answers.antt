@@ -4,16 +4,16 @@ use Rattle.image.proofs.writer.write.Goals as goal
 
 pub returns-then-records : goal.returns-then-records
 returns-then-records g c =
-    (write_many (g.P.ReadablePlan.meaning c.args.plan.now) (length c.args.out.now) (omega (arith, c.pipe-count-records.ensures, c.if-records.true)), refl)
+    (write_many (g.P.ReadablePlan.meaning c.args.plan.now) (length c.args.out.now) (omega (arith, c.pipe_count-records.ensures, c.if-records.true)), refl)
 
 pub returns-then-out-long : goal.returns-then-out-long
 returns-then-out-long g c =
-    (write_short (g.P.ReadablePlan.meaning c.args.plan.now) (length c.args.out.now) (omega (arith, c.pipe-count-records.ensures, c.if-records.false)) (omega (arith, c.pipe-count-records.ensures, c.size-n.ensures.value, c.if-out-long.true)), refl)
+    (write_short (g.P.ReadablePlan.meaning c.args.plan.now) (length c.args.out.now) (omega (arith, c.pipe_count-records.ensures, c.if-records.false)) (omega (arith, c.pipe_count-records.ensures, c.size-n.ensures.value, c.if-out-long.true)), refl)
 
 pub returns : goal.returns
 returns g c = (
-  write_passes (g.P.ReadablePlan.meaning c.args.plan.now) (length c.args.out.now) (omega (arith, c.pipe-count-records.ensures, c.if-records.false)) (omega (arith, c.pipe-count-records.ensures, c.size-n.ensures.value, c.if-out-long.false)),
-  omega (arith, length_written (g.P.ReadablePlan.meaning c.args.plan.now), c.pipe-count-records.ensures, c.size-n.ensures.value),
-  stretches_placed (g.P.ReadablePlan.meaning c.args.plan.now) c.args.out.now c.write-header.new.part c.write-heads.new.part c.write-records.new.part c.size-n.result c.pipe-count-records.result c.size-n.ensures.value c.pipe-count-records.ensures c.write-header.ensures c.write-heads.ensures c.write-records.ensures
-      ((8 + 2 * c.size-n.result) - 8) (((8 + 2 * c.size-n.result) + 6 * c.pipe-count-records.result) - (8 + 2 * c.size-n.result)) ((8 + 2 * c.size-n.result) + 6 * c.pipe-count-records.result) (omega arith) (omega arith) refl,
+  write_passes (g.P.ReadablePlan.meaning c.args.plan.now) (length c.args.out.now) (omega (arith, c.pipe_count-records.ensures, c.if-records.false)) (omega (arith, c.pipe_count-records.ensures, c.size-n.ensures.value, c.if-out-long.false)),
+  omega (arith, length_written (g.P.ReadablePlan.meaning c.args.plan.now), c.pipe_count-records.ensures, c.size-n.ensures.value),
+  stretches_placed (g.P.ReadablePlan.meaning c.args.plan.now) c.args.out.now c.write_header.new.part c.write_heads.new.part c.write_records.new.part c.size-n.result c.pipe_count-records.result c.size-n.ensures.value c.pipe_count-records.ensures c.write_header.ensures c.write_heads.ensures c.write_records.ensures
+      ((8 + 2 * c.size-n.result) - 8) (((8 + 2 * c.size-n.result) + 6 * c.pipe_count-records.result) - (8 + 2 * c.size-n.result)) ((8 + 2 * c.size-n.result) + 6 * c.pipe_count-records.result) (omega arith) (omega arith) refl,
 )

@@ -14,19 +14,19 @@ use Rattle.order.specs.Reports.{RingShown}
 use Rattle.order.proofs.Verdict.{free_when_possible, free_count, shown_none, shown_some, part_numbers, fill_carried, long_enough}
 use Rattle.order.proofs.call.order.Given as given
 use Rattle.order.proofs.call.order.Goals as goal
-use Rattle.order.proofs.call.order.Goals.{In-Ok, In-Ok-fill, then-fill-gt0+in-Ok-find-ring, else-fill-gt0}
+use Rattle.order.proofs.call.order.Goals.{In-Ok, In-Ok-fill, then-fill-gt0+in-Ok-find_ring, else-fill-gt0}
 
 -- the search was carried out
 found : (g : given.Over) (c : In-Ok g) → Searched (g.K.Kind.blank c.args.kind.now) (g.K.Kind.raised c.args.kind.now) (g.K.Kind.compared c.args.kind.now) (g.P.ReadablePlan.meaning c.args.plan.now) (take (g.P.ReadablePlan.meaning c.args.plan.now).size (numbers c.search.new.places))
 found g c = c.in-Ok.ensures.left.0
 
-pub unreachable-requires-in-default-fill : goal.unreachable-requires-in-default-fill
-unreachable-requires-in-default-fill g c =
+pub unreachable-requires-in_default-fill : goal.unreachable-requires-in_default-fill
+unreachable-requires-in_default-fill g c =
     let p : Plan = g.P.ReadablePlan.meaning c.args.plan.now in
     let e : c.size-n.result ≡ p.size = c.size-n.ensures.value in
-    let said = c.in-default-fill.ensures.answer in
+    let said = c.in_default-fill.ensures.answer in
     let us = part_numbers c.search.new.places c.size-n.result p.size e in
-    carried≢refused _ _ (said ∙ ap (λ (xs : List ℕ). fill_verdict p.size xs (length c.args.rows.now)) us ∙ fill_carried p.size _ _ (found g (goal.at.unreachable-requires-in-default-fill g c).In-Ok).order (omega (arith, c.if-rows-n.false, e)))
+    carried≢refused _ _ (said ∙ ap (λ (xs : List ℕ). fill_verdict p.size xs (length c.args.rows.now)) us ∙ fill_carried p.size _ _ (found g (goal.at.unreachable-requires-in_default-fill g c).In-Ok).order (omega (arith, c.if-rows-n.false, e)))
 
 -- the fill that was worked out is that of the order found
 filled : (g : given.Over) (c : In-Ok-fill g) → Fills (g.P.ReadablePlan.meaning c.args.plan.now) (take (g.P.ReadablePlan.meaning c.args.plan.now).size (numbers c.search.new.places)) c.args.rows.now c.in-Ok-fill.fill c.fill.new.rows
@@ -34,11 +34,11 @@ filled g c =
     let p : Plan = g.P.ReadablePlan.meaning c.args.plan.now in
     subst (λ (xs : List ℕ). Fills p xs c.args.rows.now c.in-Ok-fill.fill c.fill.new.rows) (part_numbers c.search.new.places c.size-n.result p.size c.size-n.ensures.value) c.in-Ok-fill.ensures.written
 
-pub overflow-add-cells : goal.overflow-add-cells
-overflow-add-cells g c =
+pub overflow_add-cells : goal.overflow_add-cells
+overflow_add-cells g c =
     let p : Plan = g.P.ReadablePlan.meaning c.args.plan.now in
     let few : p.size ≤ 512 = (g.met.P.ReadablePlan.sound c.args.plan.now).few in
-    let f = filled g (goal.at.overflow-add-cells g c).In-Ok-fill in
+    let f = filled g (goal.at.overflow_add-cells g c).In-Ok-fill in
     record { fits = omega (arith, c.pipes.ensures, f.counted, pairs_few p.joins p.size few, pairs_few (fill p.joins (take p.size (numbers c.search.new.places))) p.size few) }
 
 -- what the laws of the kind give the search
@@ -56,8 +56,8 @@ shown g c =
     let f = (filled g (goal.at.returns g c).In-Ok-fill).counted in
     let kept = c.in-Ok.ensures.left.3 in
     elim c.if-fill-gt0.branch [
-      | then-fill-gt0+in-Ok-find-ring w ↦
-          (let r = w.in-Ok-find-ring.ensures.left in (
+      | then-fill-gt0+in-Ok-find_ring w ↦
+          (let r = w.in-Ok-find_ring.ensures.left in (
             rw (w.ring-is, w.length-is) (shown_some _ _ _ l p sound us s c.in-Ok-fill.fill _ _ _ f w.if-fill-gt0.true r.0),
             rw w.scratch-is (λ k d h. r.1 k d h ∙ kept k d h),
           ))

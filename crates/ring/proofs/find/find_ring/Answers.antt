@@ -1,7 +1,7 @@
-use Rattle.std.proofs.Common.{◌≡◌, ℕ, ◌+◌, ◌-◌, ◌*◌, ◌<◌, ◌≤◌, ◌⊎◌, length, sym, refl, ap, ◌∙◌, inl, inr, arith}
+use Rattle.std.proofs.Common.{◌≡◌, ℕ, ◌+◌, ◌*◌, ◌<◌, ◌≤◌, ◌⊎◌, length, sym, ◌∙◌, inl, inr, arith}
 use Rattle.std.proofs.lemmas.Bool.{cases_eq, cond-false, or_from, le-ltb}
-use Rattle.plan.specs.Plans.{Plan, Sound, NextNeighbour}
-use Rattle.ring.proofs.Missing.{NoneAt, visit_more, visit_all, none_without_near, none_without_far, none_across, none_turned, none_lower, none_missed, no_ring_from_none}
+use Rattle.plan.specs.Plans.{Plan, Sound}
+use Rattle.ring.proofs.Missing.{NoneAt, visit_more, visit_all, none_without_near, none_without_far, none_across, none_missed, no_ring_from_none}
 use Rattle.ring.proofs.Queues.{neighbour_inside}
 use Rattle.ring.proofs.find.find_ring.Given as given
 use Rattle.ring.proofs.find.find_ring.Goals as goal
@@ -40,7 +40,7 @@ loop-y-preserved g c =
       c.loop-y.invariant.1,
       omega (arith, b.1, c.loop-y.invariant.2),
       visit_more p (c.search.i + 1) c.loop-y.c.0 (NoneAt p (c.search.i + 1) c.in-Some.x.0) (λ x. none_without_far p s (c.search.i + 1) c.in-Some.x.0 x) c.loop-y.invariant.3 c.in-Some-next.y c.in-Some-next.ensures
-          (none_missed p s (c.search.i + 1) c.in-Some.x.0 c.in-Some-next.y.0 _ _ _ c.reach-size.ensures.queue c.reach-size.ensures.spread c.in-default-meeting.ensures),
+          (none_missed p s (c.search.i + 1) c.in-Some.x.0 c.in-Some-next.y.0 _ _ _ c.reach-size.ensures.queue c.reach-size.ensures.spread c.in_default-meeting.ensures),
     )
 
 pub loop-x-preserved : goal.loop-x-preserved
@@ -49,7 +49,7 @@ loop-x-preserved g c =
     let s : Sound p = g.met.P.ReadablePlan.sound c.args.plan.now in
     let v : ℕ = c.search.i + 1 in
     let a : ℕ = c.in-Some.x.0 in
-    let here : ((c' : ℕ) → NoneAt p v a c') = visit_all p v c.loop-y.c.0 (NoneAt p v a) (λ x. none_without_far p s v a x) c.loop-y.invariant.3 c.in-default-next.ensures in (
+    let here : ((c' : ℕ) → NoneAt p v a c') = visit_all p v c.loop-y.c.0 (NoneAt p v a) (λ x. none_without_far p s v a x) c.loop-y.invariant.3 c.in_default-next.ensures in (
       c.loop-y.invariant.0,
       c.loop-y.invariant.1 ∙ c.loop-x.invariant.1,
       (λ i d l. c.reach-size.ensures.behind i d l ∙ c.loop-x.invariant.2 i d l),
@@ -72,7 +72,7 @@ search-preserved g c = (
     s = g.met.P.ReadablePlan.sound c.args.plan.now
 
     all : (a c' : ℕ) → NoneAt (g.P.ReadablePlan.meaning c.args.plan.now) (c.search.i + 1) a c'
-    all a = visit_all p (c.search.i + 1) c.loop-x.a.0 (λ x. (c' : ℕ) → NoneAt p (c.search.i + 1) x c') (λ x f c'. none_without_near p s (c.search.i + 1) x c' f) (λ x k c'. c.loop-x.invariant.4 x c' k) c.in-default.ensures a
+    all a = visit_all p (c.search.i + 1) c.loop-x.a.0 (λ x. (c' : ℕ) → NoneAt p (c.search.i + 1) x c') (λ x f c'. none_without_near p s (c.search.i + 1) x c' f) (λ x k c'. c.loop-x.invariant.4 x c' k) c.in_default.ensures a
 
     at : (v a c' : ℕ) → 1 ≤ v → v ≤ c.search.i + 1 → (v ≡ c.search.i + 1) ⊎ (v ≡ c.search.i + 1 → ⊥) → NoneAt (g.P.ReadablePlan.meaning c.args.plan.now) v a c'
     at v a c' pos l (inl e) = λ k r d e₀. all a c' k r d (e₀ ∙ e)

@@ -1,6 +1,5 @@
-use Rattle.std.proofs.Common.{◌≡◌, ℕ, ◌+◌, ◌-◌, ◌*◌, ◌<◌, ◌≤◌, true}
+use Rattle.std.proofs.Common.{◌≡◌, ℕ, ◌-◌, ◌*◌, ◌≤◌}
 use Rattle.plan.specs.Memory.{KeptFrom}
-use Rattle.ring.specs.Reach.{queue, mark, Queue, Spread}
 use Rattle.ring.proofs.Missing.{NoneAt}
 use Rattle.ring.proofs.find.find_ring.Given as goal
 

@@ -1,6 +1,5 @@
-use Rattle.std.proofs.Common.{◌≡◌, ℕ, suc, ◌+◌, ◌-◌, ◌<◌, ◌≤◌, ◌⊎◌, sym, refl, ap, ◌∙◌, inl, inr, add-one, arith}
+use Rattle.std.proofs.Common.{◌≡◌, ℕ, suc, ◌+◌, ◌-◌, ◌<◌, ◌⊎◌, ap, ◌∙◌, inl, inr, add-one, arith}
 use Rattle.std.proofs.lemmas.Bool.{cases_eq}
-use Rattle.plan.specs.Plans.{Plan}
 use Rattle.ring.specs.Reach.{queue, mark, back}
 use Rattle.ring.proofs.list.path_length.Given as given
 use Rattle.ring.proofs.list.path_length.Goals as goal
@@ -24,8 +23,8 @@ falls g c =
     let is : c.forerunner-at.result ≡ mark (g.P.ReadablePlan.meaning c.args.plan.now).size c.args.scratch.now (queue c.args.scratch.now c.loop-at.at) - 1 = rw e at c.forerunner-at.ensures in
     omega (arith, is, c.requires.queue.before c.loop-at.at c.loop-at-test.true here, c.loop-at-test.true)
 
-pub overflow-add-length : goal.overflow-add-length
-overflow-add-length g c = record { fits = omega (arith, c.loop-at.invariant.0, c.requires.room.1, c.requires.queue.few, c.size-n.ensures.few, c.size-n.ensures.value) }
+pub overflow_add-length : goal.overflow_add-length
+overflow_add-length g c = record { fits = omega (arith, c.loop-at.invariant.0, c.requires.room.1, c.requires.queue.few, c.size-n.ensures.few, c.size-n.ensures.value) }
 
 pub loop-at-smaller : goal.loop-at-smaller
 loop-at-smaller g c = falls g c

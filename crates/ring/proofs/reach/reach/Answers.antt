@@ -1,4 +1,4 @@
-use Rattle.std.proofs.Common.{◌≡◌, sym, refl, ap, ◌∙◌, arith}
+use Rattle.std.proofs.Common.{◌≡◌, refl, arith}
 use Rattle.plan.specs.Plans.{Plan, Sound}
 use Rattle.ring.proofs.Queues.{queue_alone}
 use Rattle.ring.proofs.reach.reach.Goals as goal

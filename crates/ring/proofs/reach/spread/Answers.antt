@@ -1,14 +1,13 @@
-use Rattle.std.proofs.Common.{◌≡◌, ℕ, ◌+◌, ◌*◌, ◌<◌, ◌≤◌, true, false, length, Some, sym, refl, ap, ◌∙◌, inl, inr, arith}
+use Rattle.std.proofs.Common.{◌≡◌, ◌<◌, ◌≤◌, sym, refl, inl, inr, arith}
 use Rattle.std.proofs.lemmas.List.{length-set}
-use Rattle.plan.specs.Plans.{Plan, Sound, NextNeighbour}
-use Rattle.ring.specs.Reach.{queue, mark}
-use Rattle.ring.proofs.Queues.{Walked, neighbour_inside, walk_skips, walk_ends, walk_adds, seat_left}
+use Rattle.plan.specs.Plans.{Plan}
+use Rattle.ring.proofs.Queues.{neighbour_inside, walk_skips, walk_ends, walk_adds, seat_left}
 use Rattle.ring.proofs.reach.spread.Given as given
 use Rattle.ring.proofs.reach.spread.Goals as goal
 use Rattle.ring.proofs.reach.spread.Goals.{In-Some, Then-not-joined, else-scratch-seat-eq0-via-then-scratch-seat-eq0+else-not-joined, else-scratch-seat-eq0-via-else-scratch-seat-eq0}
 
-pub offset-bounds-scratch-head : goal.offset-bounds-scratch-head
-offset-bounds-scratch-head g c = record { fits = omega (arith, c.requires.inside, c.requires.queue.few, c.size-n.ensures.few, c.size-n.ensures.value) }
+pub offset_bounds-scratch-head : goal.offset_bounds-scratch-head
+offset_bounds-scratch-head g c = record { fits = omega (arith, c.requires.inside, c.requires.queue.few, c.size-n.ensures.few, c.size-n.ensures.value) }
 
 pub bounds-scratch-head : goal.bounds-scratch-head
 bounds-scratch-head g c = omega (arith, c.requires.inside, c.requires.queue.few, c.requires.room)
@@ -40,25 +39,25 @@ left g c =
     seat_left p (g.met.P.ReadablePlan.sound c.args.plan.now) _ _ _ _ _ _ _ _ _ c.loop-w.invariant c.in-Some.w c.in-Some.ensures
     (rw e at c.if-scratch-seat-eq0.true) (sym c.if-not-joined.ensures) c.requires.inside c.requires.room
 
-pub offset-bounds-scratch-count : goal.offset-bounds-scratch-count
-offset-bounds-scratch-count g c = record { fits = omega (arith, left g (goal.at.offset-bounds-scratch-count g c).Then-not-joined, c.size-n.ensures.few, c.size-n.ensures.value) }
+pub offset_bounds-scratch-count : goal.offset_bounds-scratch-count
+offset_bounds-scratch-count g c = record { fits = omega (arith, left g (goal.at.offset_bounds-scratch-count g c).Then-not-joined, c.size-n.ensures.few, c.size-n.ensures.value) }
 
 pub bounds-scratch-count : goal.bounds-scratch-count
 bounds-scratch-count g c = omega (arith, left g (goal.at.bounds-scratch-count g c).Then-not-joined, c.requires.room, c.loop-w.invariant.long)
 
-pub overflow-cast-scratch : goal.overflow-cast-scratch
-overflow-cast-scratch g c = record { fits = omega (arith, c.requires.inside, c.requires.queue.few, c.size-n.ensures.few, c.size-n.ensures.value) }
+pub overflow_cast-scratch : goal.overflow_cast-scratch
+overflow_cast-scratch g c = record { fits = omega (arith, c.requires.inside, c.requires.queue.few, c.size-n.ensures.few, c.size-n.ensures.value) }
 
-pub overflow-add-scratch : goal.overflow-add-scratch
-overflow-add-scratch g c = record { fits = omega (arith, c.requires.inside, c.requires.queue.few, c.size-n.ensures.few, c.size-n.ensures.value) }
+pub overflow_add-scratch : goal.overflow_add-scratch
+overflow_add-scratch g c = record { fits = omega (arith, c.requires.inside, c.requires.queue.few, c.size-n.ensures.few, c.size-n.ensures.value) }
 
 pub bounds-scratch-seat-then-not-joined : goal.bounds-scratch-seat-then-not-joined
 bounds-scratch-seat-then-not-joined g c =
     let i = inside g (goal.at.bounds-scratch-seat-then-not-joined g c).In-Some in
     simp length-set (omega (arith, i.0, i.1, c.requires.room, c.loop-w.invariant.long, c.size-n.ensures.value))
 
-pub overflow-add-count : goal.overflow-add-count
-overflow-add-count g c = record { fits = omega (arith, left g (goal.at.overflow-add-count g c).Then-not-joined, c.size-n.ensures.few, c.size-n.ensures.value) }
+pub overflow_add-count : goal.overflow_add-count
+overflow_add-count g c = record { fits = omega (arith, left g (goal.at.overflow_add-count g c).Then-not-joined, c.size-n.ensures.few, c.size-n.ensures.value) }
 
 pub loop-w-smaller-then-not-joined : goal.loop-w-smaller-then-not-joined
 loop-w-smaller-then-not-joined g c = let i = inside g (goal.at.loop-w-smaller-then-not-joined g c).In-Some in omega (arith, i.1, c.in-Some.ensures.0)
@@ -88,6 +87,6 @@ returns g c =
     record {
       grows = c.loop-w.invariant.grows;
       queue = c.loop-w.invariant.grown;
-      spread = walk_ends p (g.met.P.ReadablePlan.sound c.args.plan.now) _ _ _ _ _ _ _ _ _ c.loop-w.invariant c.in-default.ensures;
+      spread = walk_ends p (g.met.P.ReadablePlan.sound c.args.plan.now) _ _ _ _ _ _ _ _ _ c.loop-w.invariant c.in_default.ensures;
       behind = c.loop-w.invariant.behind;
     }

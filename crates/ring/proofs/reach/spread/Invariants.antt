@@ -1,6 +1,6 @@
 use Rattle.std.proofs.Common.{◌-◌}
 use Rattle.ring.proofs.Queues.{Walked}
-use Rattle.ring.specs.Reach.{queue, mark}
+use Rattle.ring.specs.Reach.{queue}
 use Rattle.ring.proofs.reach.spread.Given as goal
 
 abbrev pub invariant-loop-w : goal.invariant-loop-w

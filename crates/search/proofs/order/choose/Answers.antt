@@ -2,10 +2,10 @@ use Rattle.std.proofs.Common.{◌≡◌, ℕ, ◌-◌, ◌<◌, get_or, sym, ari
 use Rattle.search.specs.Working.{at}
 use Rattle.search.proofs.Ranks.{better, no_better}
 use Rattle.search.proofs.order.choose.Goals as goal
-use Rattle.search.proofs.order.choose.Goals.{then-is-before, else-is-before}
+use Rattle.search.proofs.order.choose.Goals.{then-is_before, else-is_before}
 
-pub is-before-requires : goal.is-before-requires
-is-before-requires g c =
+pub is_before-requires : goal.is_before-requires
+is_before-requires g c =
     record { left = c.requires.each c.loop-i.i (omega arith); right = c.requires.each c.loop-i.best (omega arith) }
 
 pub loop-i-preserved : goal.loop-i-preserved
@@ -16,7 +16,7 @@ loop-i-preserved g c =
     let tag : g.row.K-Label.Denot → ℕ → g.row.K-Label.Denot = λ d i. get_or c.args.labels.now (at c.args.places.now i - 1) d in
     let low : c.loop-i.best < c.loop-i.i = c.loop-i.invariant.0 in
     let apart : here c.loop-i.i ≡ here c.loop-i.best → ⊥ = λ e. c.requires.apart c.loop-i.best c.loop-i.i low (omega arith) (sym e) in
-    elim c.if-is-before.branch [
-      | then-is-before w ↦ (omega (arith, w.best-is), λ i d l ne. better (g.K.Kind.blank k) (g.K.Kind.raised k) (g.K.Kind.compared k) (g.K.Kind.stands k) law here (tag d) c.loop-i.best c.loop-i.i low (λ j. c.loop-i.invariant.1 j d) c.if-is-before.best w.best-is (w.if-is-before.ensures d) i l ne)
-      | else-is-before w ↦ (omega (arith, w.best-is), λ i d l ne. no_better (g.K.Kind.blank k) (g.K.Kind.raised k) (g.K.Kind.compared k) (g.K.Kind.stands k) law here (tag d) c.loop-i.best c.loop-i.i low (λ j. c.loop-i.invariant.1 j d) c.if-is-before.best w.best-is apart (w.if-is-before.ensures d) i l ne)
+    elim c.if-is_before.branch [
+      | then-is_before w ↦ (omega (arith, w.best-is), λ i d l ne. better (g.K.Kind.blank k) (g.K.Kind.raised k) (g.K.Kind.compared k) (g.K.Kind.stands k) law here (tag d) c.loop-i.best c.loop-i.i low (λ j. c.loop-i.invariant.1 j d) c.if-is_before.best w.best-is (w.if-is_before.ensures d) i l ne)
+      | else-is_before w ↦ (omega (arith, w.best-is), λ i d l ne. no_better (g.K.Kind.blank k) (g.K.Kind.raised k) (g.K.Kind.compared k) (g.K.Kind.stands k) law here (tag d) c.loop-i.best c.loop-i.i low (λ j. c.loop-i.invariant.1 j d) c.if-is_before.best w.best-is apart (w.if-is_before.ensures d) i l ne)
     ]

@@ -6,8 +6,8 @@ pub bounds-scratch-i : goal.bounds-scratch-i
 bounds-scratch-i g c =
     omega (arith, neighbour_within (g.P.ReadablePlan.meaning c.args.plan.now) (g.met.P.ReadablePlan.sound c.args.plan.now) c.args.u.0 c.in-Some.v.0 c.in-Some.ensures.1)
 
-pub offset-bounds-labels-i : goal.offset-bounds-labels-i
-offset-bounds-labels-i g c =
+pub offset_bounds-labels-i : goal.offset_bounds-labels-i
+offset_bounds-labels-i g c =
     let h : (1 ≤ c.in-Some.v.0) × (c.in-Some.v.0 ≤ (g.P.ReadablePlan.meaning c.args.plan.now).size) = neighbour_within (g.P.ReadablePlan.meaning c.args.plan.now) (g.met.P.ReadablePlan.sound c.args.plan.now) c.args.u.0 c.in-Some.v.0 c.in-Some.ensures.1 in
     search rules
 
@@ -15,8 +15,8 @@ pub bounds-labels-i : goal.bounds-labels-i
 bounds-labels-i g c =
     omega (arith, neighbour_within (g.P.ReadablePlan.meaning c.args.plan.now) (g.met.P.ReadablePlan.sound c.args.plan.now) c.args.u.0 c.in-Some.v.0 c.in-Some.ensures.1)
 
-pub offset-bounds-labels-i-then-scratch-i : goal.offset-bounds-labels-i-then-scratch-i
-offset-bounds-labels-i-then-scratch-i g c =
+pub offset_bounds-labels-i-then-scratch-i : goal.offset_bounds-labels-i-then-scratch-i
+offset_bounds-labels-i-then-scratch-i g c =
     let h : (1 ≤ c.in-Some.v.0) × (c.in-Some.v.0 ≤ (g.P.ReadablePlan.meaning c.args.plan.now).size) = neighbour_within (g.P.ReadablePlan.meaning c.args.plan.now) (g.met.P.ReadablePlan.sound c.args.plan.now) c.args.u.0 c.in-Some.v.0 c.in-Some.ensures.1 in
     search rules
 

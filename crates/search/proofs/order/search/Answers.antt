@@ -23,11 +23,11 @@ loop-p-preserved g c =
     let one : c.loop-p.p ≡ suc (c.loop-p.p - 1) = omega arith in
     let going : Going (g.K.Kind.blank k) (g.K.Kind.raised k) (g.K.Kind.compared k) p c.loop-p.places c.loop-p.labels c.loop-p.scratch (suc q) = subst (λ (m : ℕ). Going (g.K.Kind.blank k) (g.K.Kind.raised k) (g.K.Kind.compared k) p c.loop-p.places c.loop-p.labels c.loop-p.scratch m) one c.loop-p.invariant.0 in
     let wide : p.size ≤ length c.loop-p.scratch = omega arith in
-    let now : Going (g.K.Kind.blank k) (g.K.Kind.raised k) (g.K.Kind.compared k) p c.exchange.new.places c.raise-neighbours.new.labels c.exchange.new.scratch q × KeptFrom p.size c.loop-p.places c.exchange.new.places × KeptFrom p.size c.loop-p.labels c.raise-neighbours.new.labels × KeptFrom p.size c.loop-p.scratch c.exchange.new.scratch
-    = turn (g.K.Kind.blank k) (g.K.Kind.raised k) (g.K.Kind.compared k) p c.loop-p.places c.exchange.new.places c.loop-p.labels c.raise-neighbours.new.labels c.loop-p.scratch c.exchange.new.scratch q c.choose-best.result going wide c.choose-best.ensures c.exchange.ensures.places c.exchange.ensures.scratch c.raise-neighbours.ensures in (
+    let now : Going (g.K.Kind.blank k) (g.K.Kind.raised k) (g.K.Kind.compared k) p c.exchange.new.places c.raise_neighbours.new.labels c.exchange.new.scratch q × KeptFrom p.size c.loop-p.places c.exchange.new.places × KeptFrom p.size c.loop-p.labels c.raise_neighbours.new.labels × KeptFrom p.size c.loop-p.scratch c.exchange.new.scratch
+    = turn (g.K.Kind.blank k) (g.K.Kind.raised k) (g.K.Kind.compared k) p c.loop-p.places c.exchange.new.places c.loop-p.labels c.raise_neighbours.new.labels c.loop-p.scratch c.exchange.new.scratch q c.choose-best.result going wide c.choose-best.ensures c.exchange.ensures.places c.exchange.ensures.scratch c.raise_neighbours.ensures in (
       now.0,
       kept_trans p.size p.size c.start.new.places c.loop-p.places c.exchange.new.places (omega arith) c.loop-p.invariant.1 now.1,
-      kept_trans p.size p.size c.start.new.labels c.loop-p.labels c.raise-neighbours.new.labels (omega arith) c.loop-p.invariant.2 now.2,
+      kept_trans p.size p.size c.start.new.labels c.loop-p.labels c.raise_neighbours.new.labels (omega arith) c.loop-p.invariant.2 now.2,
       kept_trans p.size p.size c.start.new.scratch c.loop-p.scratch c.exchange.new.scratch (omega arith) c.loop-p.invariant.3 now.3,
     )
 

@@ -6,12 +6,12 @@ use Rattle.sheet.proofs.call.argument.Goals as goal
 use Rattle.sheet.proofs.call.argument.Goals.{In-Number}
 
 -- what follows the blank, cut into a number and the rest
-cut : (c : In-Number) → Blanked c.args.rest.now (drop 1 c.args.rest.now) c.in-Number.text.now c.read-field.result.1.now
+cut : (c : In-Number) → Blanked c.args.rest.now (drop 1 c.args.rest.now) c.in-Number.text.now c.read_field.result.1.now
 cut c = record {
   blank = c.if-blank-ne32.false;
   tail_is = refl;
-  text_is = sym (ap text_of c.in-Number.is) ∙ c.read-field.ensures.text;
-  after_is = c.read-field.ensures.left;
+  text_is = sym (ap text_of c.in-Number.is) ∙ c.read_field.ensures.text;
+  after_is = c.read_field.ensures.left;
 }
 
 pub returns-in-Some : goal.returns-in-Some

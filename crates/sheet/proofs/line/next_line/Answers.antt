@@ -4,10 +4,10 @@ use Rattle.std.proofs.lemmas.Bool.{eqb-true}
 use Rattle.sheet.proofs.Cutting.{back_shorter}
 use Rattle.sheet.proofs.line.next_line.Goals as goal
 
-pub returns-then-is-empty : goal.returns-then-is-empty
-returns-then-is-empty c =
+pub returns-then-is_empty : goal.returns-then-is_empty
+returns-then-is_empty c =
     let cut = c.split.ensures in
-    let none : c.split.result.1.now ≡ [] = nil_from_length _ (eqb-true _ 0 (sym c.if-is-empty.ensures)) in
+    let none : c.split.result.1.now ≡ [] = nil_from_length _ (eqb-true _ 0 (sym c.if-is_empty.ensures)) in
     record { line = cut.front; rest = none ∙ ap (drop 1) (sym none ∙ cut.back); shorter = rw none (omega arith) }
 
 pub returns : goal.returns

@@ -13,7 +13,7 @@ pub loop-j-preserved : goal.loop-j-preserved
 loop-j-preserved g c plain =
     let before : HasWritten g.W.Write.write_str_gives c.args.f.now (spaced (take c.loop-j.j-index c.args.list.now)) c.loop-j.f = c.loop-j.invariant plain in
     rw (spaced_more c.args.list.now c.loop-j.j-index (record { 0 = 0 }) c.loop-j-test.true)
-    (has_written_append g.W.Write.write_str_gives c.args.f.now (spaced (take c.loop-j.j-index c.args.list.now)) c.loop-j.f (32 ∷ decimal (get_or c.args.list.now c.loop-j.j-index (record { 0 = 0 })).0) c.write.new.self before (c.in-ok-write.ensures.shows before.plain (refl {a = true})))
+    (has_written_append g.W.Write.write_str_gives c.args.f.now (spaced (take c.loop-j.j-index c.args.list.now)) c.loop-j.f (32 ∷ decimal (get_or c.args.list.now c.loop-j.j-index (record { 0 = 0 })).0) c.write.new.self before (c.in_ok-write.ensures.writes before.plain (refl {a = true})))
 
 pub returns : goal.returns
 returns g c plain e = has_written_of_eq g.W.Write.write_str_gives _ _ _ _ (ap spaced (take_all c.loop-j.j-index c.args.list.now c.loop-j-test.false)) (c.loop-j.invariant plain)

@@ -11,12 +11,12 @@ loop-rest-init g c = ((λ spare full. none_gone _ spare full _ _ _ _), refl, (λ
 pub returns-in-Err : goal.returns-in-Err
 returns-in-Err g c =
     let inv = c.loop-rest.invariant in
-    let run = c.run-line.ensures in
+    let run = c.run_line.ensures in
     let same : (λ n. short n c.loop-rest.places c.loop-rest.ring c.loop-rest.rows c.loop-rest.labels c.loop-rest.scratch) ≡ (λ n. short n c.args.places.now c.args.ring.now c.args.rows.now c.args.labels.now c.args.scratch.now) = fun_ext (λ n. short_same n n _ _ _ _ _ _ _ _ _ _ refl c.loop-rest.auto.places c.loop-rest.auto.ring c.loop-rest.auto.rows c.loop-rest.auto.labels c.loop-rest.auto.scratch) in
     record {
       heard = λ spare full.
           (let l = run.heard spare full in
-          let p = gone_next _ spare full _ _ _ _ _ _ _ _ _ _ _ _ (g.L.Listener.log c.run-line.new.listener) l.answer c.loop-rest-test.ensures c.next-line.ensures.line c.next-line.ensures.rest l.lists (inv.0 spare full) (heard_same _ spare full _ _ _ _ _ _ _ l.answer same refl refl l.heard) l.told in
+          let p = gone_next _ spare full _ _ _ _ _ _ _ _ _ _ _ _ (g.L.Listener.log c.run_line.new.listener) l.answer c.loop-rest-test.ensures c.next_line.ensures.line c.next_line.ensures.rest l.lists (inv.0 spare full) (heard_same _ spare full _ _ _ _ _ _ _ l.answer same refl refl l.heard) l.told in
           (p.done, _, p.answers, p.parts, p.visited, p.lists, p.told));
       size = run.size ∙ inv.1;
       labels = kept-both _ _ _ _ _ inv.1 inv.2 run.labels;
@@ -26,11 +26,11 @@ returns-in-Err g c =
 pub loop-rest-preserved : goal.loop-rest-preserved
 loop-rest-preserved g c =
     let inv = c.loop-rest.invariant in
-    let run = c.run-line.ensures in
+    let run = c.run_line.ensures in
     let same : (λ n. short n c.loop-rest.places c.loop-rest.ring c.loop-rest.rows c.loop-rest.labels c.loop-rest.scratch) ≡ (λ n. short n c.args.places.now c.args.ring.now c.args.rows.now c.args.labels.now c.args.scratch.now) = fun_ext (λ n. short_same n n _ _ _ _ _ _ _ _ _ _ refl c.loop-rest.auto.places c.loop-rest.auto.ring c.loop-rest.auto.rows c.loop-rest.auto.labels c.loop-rest.auto.scratch) in (
       (λ spare full.
           (let l = run.heard spare full in
-          gone_next _ spare full _ _ _ _ _ _ _ _ _ _ _ _ _ l.answer c.loop-rest-test.ensures c.next-line.ensures.line c.next-line.ensures.rest l.lists (inv.0 spare full) (heard_same _ spare full _ _ _ _ _ _ _ l.answer same refl refl l.heard) l.told)),
+          gone_next _ spare full _ _ _ _ _ _ _ _ _ _ _ _ _ l.answer c.loop-rest-test.ensures c.next_line.ensures.line c.next_line.ensures.rest l.lists (inv.0 spare full) (heard_same _ spare full _ _ _ _ _ _ _ l.answer same refl refl l.heard) l.told)),
       run.size ∙ inv.1,
       kept-both _ _ _ _ _ inv.1 inv.2 run.labels,
       kept-both _ _ _ _ _ (ap (λ (n : ℕ). 2 * n) inv.1) inv.3 run.scratch,

@@ -6,16 +6,16 @@ pub returns-then-next-eq0 : goal.returns-then-next-eq0
 returns-then-next-eq0 c =
     record {
       seat = c.seat-seat.ensures;
-      neighbour = neighbour_none c.args.self.now c.args.v.0 c.args.w c.seat-seat.result c.requires.0 c.seat-seat.ensures (rw c.as-slice-cells.ensures.value at c.if-next-eq0.true);
+      neighbour = neighbour_none c.args.self.now c.args.v.0 c.args.w c.seat-seat.result c.requires.0 c.seat-seat.ensures (rw c.as_slice-cells.ensures.value at c.if-next-eq0.true);
     }
 
 pub bounds-cells-next : goal.bounds-cells-next
 bounds-cells-next c =
-    rw c.as-slice-cells.ensures.value (omega (arith, found_room c.args.self.now c.args.v.0 c.args.w c.seat-seat.result c.requires.0 c.seat-seat.ensures (omega (arith, rw c.as-slice-cells.ensures.value at c.if-next-eq0.false)), c.args.self.now.room, c.args.self.now.cells.ok.0))
+    rw c.as_slice-cells.ensures.value (omega (arith, found_room c.args.self.now c.args.v.0 c.args.w c.seat-seat.result c.requires.0 c.seat-seat.ensures (omega (arith, rw c.as_slice-cells.ensures.value at c.if-next-eq0.false)), c.args.self.now.room, c.args.self.now.cells.ok.0))
 
 pub returns : goal.returns
 returns c =
     record {
       seat = c.seat-seat.ensures;
-      neighbour = rw c.as-slice-cells.ensures.value (neighbour_found c.args.self.now c.args.v.0 c.args.w c.seat-seat.result c.requires.0 c.seat-seat.ensures (omega (arith, rw c.as-slice-cells.ensures.value at c.if-next-eq0.false)));
+      neighbour = rw c.as_slice-cells.ensures.value (neighbour_found c.args.self.now c.args.v.0 c.args.w c.seat-seat.result c.requires.0 c.seat-seat.ensures (omega (arith, rw c.as_slice-cells.ensures.value at c.if-next-eq0.false)));
     }

@@ -4,8 +4,8 @@ use Rattle.image.specs.Reading.{is_sound}
 use Rattle.image.specs.Sounds.{sound_laid}
 use Rattle.image.proofs.checked.CheckedImage.next_upper.Goals as goal
 
-pub next-above-requires : goal.next-above-requires
-next-above-requires c =
+pub next_above-requires : goal.next_above-requires
+next_above-requires c =
     record {
       laid = rw c.deref.ensures.value (sound_laid (vec_items c.args.self.now.bytes) c.args.self.now.header c.args.self.now.sound c.args.self.now.size c.args.self.now.count);
       sound = ap is_sound c.deref.ensures.value ∙ c.args.self.now.sound;

@@ -4,8 +4,8 @@ use Rattle.isolation.specs.Seen.{shut_hides_left}
 use Rattle.isolation.proofs.Walk.{scan_past_shut, scan_finds, scan_ends, scan_falls}
 use Rattle.isolation.proofs.layer.IsolationReadablePlan.next.Goals as goal
 
-pub returns-then-not-is-open : goal.returns-then-not-is-open
-returns-then-not-is-open g c u l = shut_hides_left (g.R.ReadablePlan.meaning c.args.self.now.below) (opens c.args.self.now.states.table) _ u (sym c.if-not-is-open.ensures)
+pub returns-then-not-is_open : goal.returns-then-not-is_open
+returns-then-not-is_open g c u l = shut_hides_left (g.R.ReadablePlan.meaning c.args.self.now.below) (opens c.args.self.now.states.table) _ u (sym c.if-not-is_open.ensures)
 
 pub loop-u-init : goal.loop-u-init
 loop-u-init g c = record { reached = omega arith; none = λ x a b. absurd (omega arith) }
@@ -15,11 +15,11 @@ loop-u-smaller g c =
     scan_falls (g.R.ReadablePlan.meaning c.args.self.now.below) _ _ c.in-Some.u (g.met.R.ReadablePlan.sound c.args.self.now.below) c.in-Some.ensures
 
 pub loop-u-preserved : goal.loop-u-preserved
-loop-u-preserved g c = scan_past_shut _ _ _ _ _ c.loop-u.invariant c.in-Some.u c.in-Some.ensures (sym c.if-is-open.ensures)
+loop-u-preserved g c = scan_past_shut _ _ _ _ _ c.loop-u.invariant c.in-Some.u c.in-Some.ensures (sym c.if-is_open.ensures)
 
-pub returns-then-is-open : goal.returns-then-is-open
-returns-then-is-open g c =
-    scan_finds _ _ _ _ _ c.loop-u.invariant (g.met.R.ReadablePlan.sound c.args.self.now.below) c.in-Some.u c.in-Some.ensures (sym c.if-not-is-open.ensures) (sym c.if-is-open.ensures)
+pub returns-then-is_open : goal.returns-then-is_open
+returns-then-is_open g c =
+    scan_finds _ _ _ _ _ c.loop-u.invariant (g.met.R.ReadablePlan.sound c.args.self.now.below) c.in-Some.u c.in-Some.ensures (sym c.if-not-is_open.ensures) (sym c.if-is_open.ensures)
 
 pub returns : goal.returns
-returns g c = scan_ends _ _ _ _ _ c.loop-u.invariant c.in-default.ensures
+returns g c = scan_ends _ _ _ _ _ c.loop-u.invariant c.in_default.ensures

@@ -1,4 +1,4 @@
-use Rattle.std.proofs.Common.{◌≡◌, sym, subst}
+use Rattle.std.proofs.Common.{sym, subst}
 use Rattle.plan.specs.Plans.{Plan}
 use Rattle.isolation.specs.States.{opens}
 use Rattle.order.specs.Reports.{OrderCall}

@@ -12,7 +12,7 @@ returns-else-i-self c =
     next_beyond c.args.self.now.n (vec_items c.args.self.now.words) c.args.v.0 c.args.w.0 c.args.self.now.few (sym c.if-not-has.ensures) c.in-Some.i
     (rw c.deref.ensures.value at c.in-Some.ensures) c.if-i-self.false
 
-pub returns-in-default : goal.returns-in-default
-returns-in-default c =
+pub returns-in_default : goal.returns-in_default
+returns-in_default c =
     next_absent c.args.self.now.n (vec_items c.args.self.now.words) c.args.v.0 c.args.w.0 c.args.self.now.few (sym c.if-not-has.ensures)
-    (rw c.deref.ensures.value at c.in-default.ensures)
+    (rw c.deref.ensures.value at c.in_default.ensures)

@@ -6,14 +6,30 @@ use Rattle.chained.proofs.register.changing.ChainedRegisterRegister.join.Goals a
 
 pub returns-then-self-eq0 : goal.returns-then-self-eq0
 returns-then-self-eq0 c =
-    join_unspared c.args.self.now c.args.v.0 c.args.w.0 (sym c.if-not-has.ensures) (sym c.if-not-has-2.ensures) c.if-v-w.false c.find-v-found.result.neighbour c.find-v-found.ensures.neighbour c.if-v-found-w.false c.if-self-eq0.true
+    join_unspared c.args.self.now c.args.v.0 c.args.w.0 (sym c.if-not-has.ensures) (sym c.if-not-has-2.ensures) c.if-v-w.false c.find-v_found.result.neighbour c.find-v_found.ensures.neighbour c.if-v_found-w.false c.if-self-eq0.true
 
-pub invariant-of-self : goal.invariant-of-self
-invariant-of-self c =
-    let k : Kept c.args.self.now.n c.args.self.now.c (c.args.self.now.spare - 1) c.add-pair-free.result (vec_items (with_items c.args.self.now.cells c.add-pair-free.new.cells)) = join_kept c.args.self.now c.args.v.0 c.args.w.0 (sym c.if-not-has.ensures) (sym c.if-not-has-2.ensures) c.if-v-w.false c.find-v-found.result.seat c.find.result.seat c.find-v-found.ensures.seat c.find.ensures.seat c.find-v-found.result.neighbour c.find-v-found.ensures.neighbour c.if-v-found-w.false c.if-self-eq0.false c.deref-mut.result.now c.add-pair-free.new.cells c.deref-mut.ensures.value c.add-pair-free.auto.cells c.add-pair-free.ensures.cells c.add-pair-free.result c.add-pair-free.ensures.head in
-    (c.args.self.now.some, (c.args.self.now.few, (c.args.self.now.most, (c.args.self.now.room, (k.bounded, (k.paired, (k.apart, (k.chains.ascends, (k.chains.complete, (k.chains.single, (k.frees.counted, (k.frees.distinct, (k.frees.listed, (k.frees.first, (k.filled, tt)))))))))))))))
+pub invariant_of-self : goal.invariant_of-self
+invariant_of-self c =
+    let k : Kept c.args.self.now.n c.args.self.now.c (c.args.self.now.spare - 1) c.add_pair-free.result (vec_items (with_items c.args.self.now.cells c.add_pair-free.new.cells)) = join_kept c.args.self.now c.args.v.0 c.args.w.0 (sym c.if-not-has.ensures) (sym c.if-not-has-2.ensures) c.if-v-w.false c.find-v_found.result.seat c.find.result.seat c.find-v_found.ensures.seat c.find.ensures.seat c.find-v_found.result.neighbour c.find-v_found.ensures.neighbour c.if-v_found-w.false c.if-self-eq0.false c.deref_mut.result.now c.add_pair-free.new.cells c.deref_mut.ensures.value c.add_pair-free.auto.cells c.add_pair-free.ensures.cells c.add_pair-free.result c.add_pair-free.ensures.head in
+    record {
+      some = c.args.self.now.some;
+      few = c.args.self.now.few;
+      most = c.args.self.now.most;
+      room = c.args.self.now.room;
+      bounded = k.bounded;
+      paired = k.paired;
+      apart = k.apart;
+      ascends = k.chains.ascends;
+      complete = k.chains.complete;
+      single = k.chains.single;
+      counted = k.frees.counted;
+      distinct = k.frees.distinct;
+      listed = k.frees.listed;
+      first = k.frees.first;
+      filled = k.filled;
+    }
 
 pub returns : goal.returns
 returns c =
-    join_done c.args.self.now c.args.v.0 c.args.w.0 (sym c.if-not-has.ensures) (sym c.if-not-has-2.ensures) c.if-v-w.false c.find-v-found.result.seat c.find.result.seat c.find-v-found.ensures.seat c.find.ensures.seat c.find-v-found.result.neighbour c.find-v-found.ensures.neighbour c.if-v-found-w.false c.if-self-eq0.false
-    c.deref-mut.result.now c.add-pair-free.new.cells c.deref-mut.ensures.value c.add-pair-free.auto.cells c.add-pair-free.ensures.cells
+    join_done c.args.self.now c.args.v.0 c.args.w.0 (sym c.if-not-has.ensures) (sym c.if-not-has-2.ensures) c.if-v-w.false c.find-v_found.result.seat c.find.result.seat c.find-v_found.ensures.seat c.find.ensures.seat c.find-v_found.result.neighbour c.find-v_found.ensures.neighbour c.if-v_found-w.false c.if-self-eq0.false
+    c.deref_mut.result.now c.add_pair-free.new.cells c.deref_mut.ensures.value c.add_pair-free.auto.cells c.add_pair-free.ensures.cells

@@ -8,4 +8,4 @@ returns-then-not-has c u l = outside_apart (plan_in c.args.self.now) (checked_so
 
 pub returns-in-None : goal.returns-in-None
 returns-in-None c =
-    next_past (plan_in c.args.self.now) (checked_sound c.args.self.now) c.args.v.0 c.args.w.0 c.next-upper-in-None.result c.if-w-v.false c.in-None.ensures c.next-upper-in-None.ensures
+    next_past (plan_in c.args.self.now) (checked_sound c.args.self.now) c.args.v.0 c.args.w.0 c.next_upper-in-None.result c.if-w-v.false c.in-None.ensures c.next_upper-in-None.ensures
