@@ -3,15 +3,15 @@ use Rattle.std.proofs.Common.{◌≡◌, ℕ, ◌+◌, ◌-◌, ◌*◌, ◌/◌
 use Rattle.std.proofs.lemmas.Bool.{cases_Bool, le-ltb}
 use Rattle.bitset.specs.Bits.{bit, holds}
 use Rattle.bitset.proofs.BitLaws.{bit_of_zero}
-use Rattle.plan.specs.declared.number.Place.{Place}
 use Rattle.plan.specs.Plans.{Plan, Sound, pairs}
 use Rattle.plan.specs.Orders.{ordered}
 use Rattle.plan.specs.Refusals.Verdict.{carried}
-use Rattle.plan.proofs.Counts.{pairs_same, pairs-none}
+use Rattle.plan.proofs.Counts.{pairs_same}
 use Rattle.plan.proofs.Orders.{IsOrder, place_at}
 use Rattle.elimination.specs.Elimination.{fill}
 use Rattle.elimination.specs.Rows.{Fills, fill_verdict}
 use Rattle.elimination.specs.Steps.{marked, found, Places, Table, Eliminates, at}
+use Rattle.elimination.proofs.Counting.{no_pairs}
 use Rattle.elimination.proofs.Laws.{plan_simple}
 use Rattle.elimination.proofs.Marked.{marked-holds, word_of_number, bit_of_number}
 use Rattle.elimination.proofs.Neighbours.{found-marked, found_parts}
@@ -50,7 +50,7 @@ module _ (q : Plan) (s : Sound q) (us : List ℕ) (o : IsOrder q.size us) where
   filling_none before rows clear behind =
       record {
         working = working_none q.joins (plan_simple q s) q.size us o ends (found q.size rows) (found-clear q.size rows clear);
-        counted = sym (pairs-none (found q.size rows) q.size (λ v w i j k. found-clear q.size rows clear v w));
+        counted = sym (no_pairs (found q.size rows) q.size (found-clear q.size rows clear));
         behind = behind;
       }
 
@@ -59,7 +59,7 @@ module _ (q : Plan) (s : Sound q) (us : List ℕ) (o : IsOrder q.size us) where
     filling_table room =
         record { room = room; alike = f.working.alike; inside = λ v w h. (f.working.inside v w h).3 }
 
-    pub filling_more : (places : List Place) (after : List ℕ) (added : ℕ) → Places q.size us places → t < q.size → Eliminates q (at places) (get_or us t 0) rows after → added + pairs (found q.size rows) q.size ≡ pairs (found q.size after) q.size → Filling q us before (t + 1) after (count + added)
+    pub filling_more : (places after : List ℕ) (added : ℕ) → Places q.size us places → t < q.size → Eliminates q (at places) (get_or us t 0) rows after → added + pairs (found q.size rows) q.size ≡ pairs (found q.size after) q.size → Filling q us before (t + 1) after (count + added)
     filling_more places after added table l e more =
         record {
           working = rw (add-one t) (working_more q.joins (plan_simple q s) q.size us o ends t (found q.size rows) f.working (get_or us t 0) e.parent (at places) table (o.each t l).0 (o.each t l).1 (place_at q.size us o t l) e.earliest (found q.size after) e.over.marks);

@@ -1,11 +1,10 @@
 -- The steps of the elimination: pairs marked in rows, and junctions whose parents take over from them.
-use Rattle.std.specs.Prelude.{◌≡◌, ℕ, ◌+◌, ◌-◌, ◌*◌, ◌/◌, ◌<◌, ◌≤◌, Bool, true, false, cond, not, ◌&&◌, ◌||◌, List, length, Some, None, Option, ◌==◌, ◌≢◌, nat_le, nat_lt, slice_index, slice_index_or}
+use Rattle.std.specs.Prelude.{◌≡◌, ℕ, ◌+◌, ◌-◌, ◌*◌, ◌/◌, ◌<◌, ◌≤◌, Bool, true, false, cond, not, ◌&&◌, ◌||◌, List, length, Some, None, Option, ◌==◌, ◌≢◌, nat_le, nat_lt, slice_index}
 use Rattle.bitset.specs.Bits.{holds}
 use Rattle.plan.specs.Plans.{Plan, pairs}
 use Rattle.plan.specs.Orders.{place}
 use Rattle.plan.specs.Registers.{same_pair}
 use Rattle.plan.specs.declared.number.Junction.{Junction}
-use Rattle.plan.specs.declared.number.Place.{Place}
 
 -- the pair v, w is marked in the rows
 unfoldable pub marked : List ℕ → ℕ → ℕ → Bool
@@ -36,11 +35,11 @@ abbrev pub known : Plan → List ℕ → ℕ → ℕ → Bool
 known p rows v w = p.joins v w || found p.size rows v w
 
 -- the place of v in a table of places
-abbrev pub at : List Place → ℕ → ℕ
-at places v = (slice_index_or places (v - 1) (record { 0 = 0 })).0
+abbrev pub at : List ℕ → ℕ → ℕ
+at places v = slice_index places (v - 1)
 
 -- the table has the places of an order of n junctions
-abbrev pub Places : ℕ → List ℕ → List Place → Type 0
+abbrev pub Places : ℕ → List ℕ → List ℕ → Type 0
 Places n us places = (v : ℕ) → 1 ≤ v → v ≤ n → at places v ≡ place us v
 
 -- the earliest of v's neighbours at later places, or nothing where v has none

@@ -13,4 +13,4 @@ mod theorems;
 
 pub use cells::pipes;
 pub use elimination::fill;
-pub use theorems::{no_fill_law, path_law};
+pub use theorems::{no_fill_law, path_law, worked_plans};

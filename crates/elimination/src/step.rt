@@ -4,12 +4,12 @@ ghost use Rattle.std.specs.Prelude.{◌≡◌, ◌*◌, ◌<◌, ◌≤◌, leng
 ghost use Rattle.elimination.specs.Steps.{known, at, NextIn, Table, Earliest, Joins, Adds, TakesOver, Eliminates, earlier_of};
 
 use crate::rows::{is_marked, mark, next_marked};
-use plan::{Junction, Place, ReadablePlan};
+use plan::{Junction, ReadablePlan};
 
 // The place of v.
-fn place_of(places: &[Place; 512], v: Junction) -> Place
+fn place_of(places: &[u16; 512], v: Junction) -> u16
     requires { (1 ≤ v.0) × (v.0 ≤ 512) }
-    ensures { result.0 ≡ at places.now v.0 }
+    ensures { result ≡ at places.now v.0 }
 {
     places[v.0 as usize - 1]
 }
@@ -27,14 +27,14 @@ fn next_known<P: ReadablePlan>(plan: &P, rows: &[u64], v: Junction, w: Junction)
 }
 
 // Of two junctions the one at the earlier place, where the first may be missing.
-fn earlier(places: &[Place; 512], best: Option<Junction>, u: Junction) -> Junction
+fn earlier(places: &[u16; 512], best: Option<Junction>, u: Junction) -> Junction
     requires best { IfSome best (λ p. (1 ≤ p.0) × (p.0 ≤ 512)) }
     requires other { (1 ≤ u.0) × (u.0 ≤ 512) }
     ensures { result ≡ earlier_of (at places.now) best u }
 {
     match best {
         Some(p) => {
-            if place_of(places, p).0 <= place_of(places, u).0 {
+            if place_of(places, p) <= place_of(places, u) {
                 p
             } else {
                 u
@@ -47,7 +47,7 @@ fn earlier(places: &[Place; 512], best: Option<Junction>, u: Junction) -> Juncti
 // The earliest placed of v's neighbours at later places.
 fn earliest<P: ReadablePlan>(
     plan: &P,
-    places: &[Place; 512],
+    places: &[u16; 512],
     rows: &[u64],
     v: Junction,
 ) -> Option<Junction>
@@ -57,7 +57,7 @@ fn earliest<P: ReadablePlan>(
     let mut best = None;
     let mut last = Junction(0);
     while let Some(u) = next_known(plan, rows, v, last) {
-        if place_of(places, v).0 < place_of(places, u).0 {
+        if place_of(places, v) < place_of(places, u) {
             best = Some(earlier(places, best, u));
         }
         last = u;
@@ -82,7 +82,7 @@ fn join<P: ReadablePlan>(plan: &P, rows: &mut [u64], p: Junction, u: Junction) -
 // Joins p to v's other neighbours at later places; answers how many pairs that adds.
 fn take_over<P: ReadablePlan>(
     plan: &P,
-    places: &[Place; 512],
+    places: &[u16; 512],
     rows: &mut [u64],
     v: Junction,
     p: Junction,
@@ -97,7 +97,7 @@ fn take_over<P: ReadablePlan>(
     let mut added = 0;
     let mut last = Junction(0);
     while let Some(u) = next_known(plan, rows, v, last) {
-        if place_of(places, v).0 < place_of(places, u).0 && u.0 != p.0 && join(plan, rows, p, u) {
+        if place_of(places, v) < place_of(places, u) && u.0 != p.0 && join(plan, rows, p, u) {
             added += 1;
         }
         last = u;
@@ -108,7 +108,7 @@ fn take_over<P: ReadablePlan>(
 /// Eliminates v, the first that is left; answers how many fill pairs that adds.
 pub(crate) fn eliminate<P: ReadablePlan>(
     plan: &P,
-    places: &[Place; 512],
+    places: &[u16; 512],
     rows: &mut [u64],
     v: Junction,
 ) -> u32

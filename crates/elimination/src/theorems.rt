@@ -1,6 +1,6 @@
 //! Theorems about the fill, each the contract of a function that only states it.
 ghost use Rattle.std.specs.Prelude.{◌≡◌};
-ghost use Rattle.elimination.specs.Laws.{NoFillLaw, PathLaw};
+ghost use Rattle.elimination.specs.Laws.{NoFillLaw, PathLaw, WorkedPlans};
 
 /// An order has no fill, and `fill` answers 0, exactly where it is perfect: for every junction, its
 /// neighbours at later places are joined pairwise. Answers 1.
@@ -18,4 +18,12 @@ pub fn path_law() -> u8
     ensures two { result ≡ 2 }
 {
     2
+}
+
+/// Small plans with their fill, worked out from the definitions alone. Answers 3.
+pub fn worked_plans() -> u8
+    ensures plans { WorkedPlans }
+    ensures three { result ≡ 3 }
+{
+    3
 }

@@ -1,8 +1,6 @@
 -- Counting keeps the laws.
 use Rattle.std.specs.Prelude.{◌≡◌, ℕ, ◌+◌, ◌<◌, ◌≤◌, true, List, [], ◌∷◌, ◌++◌, length, refl}
 use Rattle.std.specs.declared.cmp.Ordering.TheVariants.{Less}
-use mathlib.Core.HLevel.{is_prop→PathP}
-use Rattle.std.proofs.Math.Bridge.{le_prop}
 use Rattle.std.proofs.Common.{arith}
 use Rattle.std.proofs.lemmas.List.{length_push}
 use Rattle.std.proofs.lemmas.Bool.Decides.{nat_tests}
@@ -11,10 +9,6 @@ use Rattle.label.specs.Marks.{has, is_mark}
 use Rattle.label.specs.Laws.{Laws}
 use Rattle.label.specs.Counts.{by_number, no_count, counted, compared_counts, CountStands}
 use Rattle.label.specs.Fallen.{falls-length, falls_push, fewer_length}
-
--- a count is its number
-pub same_count : (a b : Count) → a.marks ≡ b.marks → a ≡ b
-same_count a b e = λ i. record { marks = e i; few = is_prop→PathP (λ j. e j ≤ 512) (λ j. le_prop) a.few b.few i }
 
 count_raises : (a : Count) (s : List ℕ) (m : ℕ) → is_mark m ≡ true → CountStands a s → ((x : ℕ) → has s x ≡ true → m < x) → CountStands (counted a m) (s ++ m ∷ [])
 count_raises a s m k h above =
@@ -36,5 +30,5 @@ counting_lawful = record {
   less_equal = λ a b c h k. grind (arith, nat_tests);
   equal_less = λ a b c h k. grind (arith, nat_tests);
   equal_equal = λ a b c h k. grind (arith, nat_tests);
-  fewer = λ a b s t m h k sub x y. by_number_less a.marks b.marks (omega (arith, fewer_length 513 s t m h.1 k.1 sub x y));
+  fewer = λ a b s t m h k sub x y. by_number_less a.0 b.0 (omega (arith, fewer_length 513 s t m h.1 k.1 sub x y));
 }

@@ -3,9 +3,9 @@ pub mod Eithers
 pub mod Laws
 pub mod Marks
 pub mod Sets
+pub mod Counted
+pub mod Fallen
 pub mod Paired
 pub mod Rankings
 pub mod LexLaws
-pub mod Fallen
 pub mod Highest
-pub mod Counted
