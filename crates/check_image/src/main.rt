@@ -14,7 +14,7 @@ use std::io;
 // Prints the report on the image that standard input, or the file named, has.
 fn main(rt: HostRuntime) -> io::Result<()> {
     // One byte more than an image can have, so that a longer input is refused for its length.
-    let bytes = read_input(&rt, IMAGE_LIMIT + 1)?;
+    let bytes = read_input(&rt, IMAGE_LIMIT as u64 + 1)?;
     let report = Report(CheckedImage::new(bytes));
     print!(rt; "{report}")
 }

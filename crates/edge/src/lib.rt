@@ -11,21 +11,21 @@ use std::{env, fs, io};
 
 /// The bytes of the file that the program's one argument names, or of standard input where it has
 /// none: at most `limit` of them, so that it ends on an endless input too.
-pub fn read_input(rt: &HostRuntime, limit: usize) -> io::Result<Vec<u8>>
+pub fn read_input(rt: &HostRuntime, limit: u64) -> io::Result<Vec<u8>>
     ensures { IfOk result (λ v. vec_len v ≤ limit) }
 {
     let mut bytes = Vec::new(rt.alloc());
     match env::args(rt)?.nth(1) {
         Some(name) => {
             let _ = fs::open(rt, name.as_str())?
-                .take(limit as u64)
+                .take(limit)
                 .read_to_end(&mut bytes)?;
         }
         None => {
-            let _ = rt.stdin().take(limit as u64).read_to_end(&mut bytes)?;
+            let _ = rt.stdin().take(limit).read_to_end(&mut bytes)?;
         }
     }
-    bytes.truncate(limit);
+    bytes.truncate(limit as usize);
     Ok(bytes)
 }
 

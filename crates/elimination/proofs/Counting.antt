@@ -1,23 +1,14 @@
 -- Counting the neighbours of a junction in the order of their numbers.
-use Rattle.std.proofs.Common.{◌≡◌, ℕ, zero, suc, ◌+◌, ◌-◌, ◌<◌, ◌≤◌, Bool, true, false, ◌⊎◌, Some, sym, refl, ap, ◌∙◌, inl, inr, arith}
+use Rattle.std.proofs.Common.{◌≡◌, ℕ, zero, suc, ◌+◌, ◌-◌, ◌<◌, ◌≤◌, Bool, true, false, ◌⊎◌, Some, sym, ◌∙◌, inl, inr, arith}
 use Rattle.std.proofs.lemmas.Bool.{cases_Bool, cases_eq, both_ways}
 use Rattle.plan.specs.Plans.{Plan, Sound, NextNeighbour, count, pairs}
 use Rattle.plan.specs.declared.number.Junction.{Junction}
-use Rattle.plan.proofs.Counts.{count-le, pairs_same}
+use Rattle.plan.proofs.Counts.{count-le, count_flat}
 
 -- of the numbers up to k, which are below w, so many are neighbours of w
 pub record BelowTo (q : Plan) (w k found : ℕ) : Type 0 where
   pub below : k < w
   pub counted : found ≡ count (λ v. q.joins (suc v) w) k
-
--- numbers that do not pass leave the count as it is
-count_stretch : (t : ℕ → Bool) (k m : ℕ) → k ≤ m → ((x : ℕ) → k ≤ x → x < m → t x ≡ false) → count t m ≡ count t k
-count_stretch t k zero l none = let e : 0 ≡ k = omega arith in ap (count t) e
-count_stretch t k (suc m) l none = go (cases_eq k (suc m)) (λ h. count_stretch t k m h (λ x i j. none x i (omega arith)))
-  where
-    go : (k ≡ suc m) ⊎ (k ≡ suc m → ⊥) → (k ≤ m → count t m ≡ count t k) → count t (suc m) ≡ count t k
-    go (inl e) rest = ap (count t) (sym e)
-    go (inr ne) rest = rw (none m (omega arith) (omega arith)) (omega (arith, rest (omega arith)))
 
 module _ {q : Plan} {w k found : ℕ} (s : Sound q) (b : BelowTo q w k found) where
   pub below_more : (v : Junction) → NextNeighbour q w k (Some v) → v.0 ≤ w → BelowTo q w v.0 (found + 1)
@@ -29,13 +20,13 @@ module _ {q : Plan} {w k found : ℕ} (s : Sound q) (b : BelowTo q w k found) wh
       step : (x : ℕ) → k < x → q.joins w x ≡ true → ((y : ℕ) → k < y → y < x → q.joins w y ≡ false) → found + 1 ≡ count (λ y. q.joins (suc y) w) x
       step zero i j none = absurd (omega arith)
       step (suc x) i j none =
-          let same : count (λ y. q.joins (suc y) w) x ≡ count (λ y. q.joins (suc y) w) k = count_stretch (λ y. q.joins (suc y) w) k x (omega arith) (λ y a c. s.alike (suc y) w ∙ none (suc y) (omega arith) (omega arith)) in
+          let same : count (λ y. q.joins (suc y) w) x ≡ count (λ y. q.joins (suc y) w) k = count_flat (λ y. q.joins (suc y) w) k x (omega arith) (λ y a c. s.alike (suc y) w ∙ none (suc y) (omega arith) (omega arith)) in
           rw (s.alike (suc x) w ∙ j) (omega (arith, b.counted, same))
 
   -- no neighbour is left below w
   pub below_all : ((x : ℕ) → k < x → x < w → q.joins w x ≡ false) → found ≡ count (λ y. q.joins (suc y) w) (w - 1)
   below_all none =
-      b.counted ∙ sym (count_stretch (λ y. q.joins (suc y) w) k (w - 1) (omega (arith, b.below)) (λ y i j. s.alike (suc y) w ∙ none (suc y) (omega arith) (omega arith)))
+      b.counted ∙ sym (count_flat (λ y. q.joins (suc y) w) k (w - 1) (omega (arith, b.below)) (λ y i j. s.alike (suc y) w ∙ none (suc y) (omega arith) (omega arith)))
 
   pub below_few : found < w
   below_few = omega (arith, b.counted, b.below, count-le (λ y. q.joins (suc y) w) k)
@@ -66,14 +57,3 @@ pairs-zero t (suc n) h (suc v) w i j k = go (cases_eq w (suc n)) (λ e. pairs-ze
     go : (w ≡ suc n) ⊎ (w ≡ suc n → ⊥) → (pairs t n ≡ 0 → w ≤ n → t (suc v) w ≡ false) → t (suc v) w ≡ false
     go (inl d) rest = rw d (count-zero (λ x. t (suc x) (suc n)) n (omega arith) v (omega arith))
     go (inr d) rest = rest (omega arith) (omega arith)
-
-count_none : (n : ℕ) → count (λ v. false) n ≡ 0
-count_none zero = refl
-count_none (suc n) = omega (arith, count_none n)
-
-pairs-none : (n : ℕ) → pairs (λ v w. false) n ≡ 0
-pairs-none zero = refl
-pairs-none (suc n) = omega (arith, pairs-none n, count_none n)
-
-pub no_pairs : (t : ℕ → ℕ → Bool) (n : ℕ) → ((v w : ℕ) → t v w ≡ false) → pairs t n ≡ 0
-no_pairs t n none = pairs_same t (λ v w. false) n (λ v w i j k. none v w) ∙ pairs-none n

@@ -6,12 +6,11 @@ use Rattle.bitset.proofs.BitLaws.{bit_of_zero}
 use Rattle.plan.specs.Plans.{Plan, Sound, pairs}
 use Rattle.plan.specs.Orders.{ordered}
 use Rattle.plan.specs.Refusals.Verdict.{carried}
-use Rattle.plan.proofs.Counts.{pairs_same}
+use Rattle.plan.proofs.Counts.{pairs_same, pairs-none}
 use Rattle.plan.proofs.Orders.{IsOrder, place_at}
 use Rattle.elimination.specs.Elimination.{fill}
 use Rattle.elimination.specs.Rows.{Fills, fill_verdict}
 use Rattle.elimination.specs.Steps.{marked, found, Places, Table, Eliminates, at}
-use Rattle.elimination.proofs.Counting.{no_pairs}
 use Rattle.elimination.proofs.Laws.{plan_simple}
 use Rattle.elimination.proofs.Marked.{marked-holds, word_of_number, bit_of_number}
 use Rattle.elimination.proofs.Neighbours.{found-marked, found_parts}
@@ -50,7 +49,7 @@ module _ (q : Plan) (s : Sound q) (us : List ℕ) (o : IsOrder q.size us) where
   filling_none before rows clear behind =
       record {
         working = working_none q.joins (plan_simple q s) q.size us o ends (found q.size rows) (found-clear q.size rows clear);
-        counted = sym (no_pairs (found q.size rows) q.size (found-clear q.size rows clear));
+        counted = sym (pairs-none (found q.size rows) q.size (λ v w i j k. found-clear q.size rows clear v w));
         behind = behind;
       }
 

@@ -3,11 +3,12 @@ use Rattle.std.proofs.Common.{◌≡◌, ℕ, zero, suc, ◌+◌, ◌<◌, ◌�
 use Rattle.std.proofs.lemmas.Bool.{cases_eq, cases_lt, cases_Bool, both_ways}
 use Rattle.plan.specs.Plans.{Plan, Sound, pairs}
 use Rattle.plan.specs.Orders.{ordered, place}
+use Rattle.plan.proofs.Counts.{pairs-none}
 use Rattle.plan.proofs.Orders.{IsOrder, order_of, place_apart}
 use Rattle.elimination.specs.Elimination.{new, eliminated, fill, filled, cells}
 use Rattle.elimination.specs.Laws.{Perfect, NoFillLaw, Route, PathLaw, WorkedPlans}
 use Rattle.elimination.specs.Laws.Route.{pipe, via}
-use Rattle.elimination.proofs.Counting.{pairs-zero, no_pairs}
+use Rattle.elimination.proofs.Counting.{pairs-zero}
 use Rattle.elimination.proofs.Filled.{Simple, fill_alike, fill_apart, fill_lone, fill_no_pipe, filled_pipe, filled_fill, filled_cases, filled_closed, filled_least}
 
 pub plan_simple : (p : Plan) → Sound p → Simple p.joins
@@ -67,7 +68,7 @@ no_fill_law_lem p s us = (
   (perfect_from_no_fill p.joins us (plan_simple p s), no_fill_from_perfect p.joins us (plan_simple p s)),
   (
     λ h. perfect_from_no_fill p.joins us (plan_simple p s) (no_fill_from_count p s us h),
-    λ h. no_pairs (fill p.joins us) p.size (no_fill_from_perfect p.joins us (plan_simple p s) h),
+    λ h. pairs-none (fill p.joins us) p.size (λ v w i j k. no_fill_from_perfect p.joins us (plan_simple p s) h v w),
   ),
 )
 

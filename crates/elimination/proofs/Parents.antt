@@ -1,12 +1,12 @@
 -- The earliest later neighbour takes over the others, one after the other in the order of their numbers.
-use Rattle.std.proofs.Common.{◌≡◌, ℕ, ◌+◌, ◌*◌, ◌<◌, ◌≤◌, Bool, true, false, not, ◌&&◌, ◌||◌, eqb, leb, ◌⊎◌, List, get_or, Some, None, sym, refl, ap, ◌∙◌, inl, inr, arith}
+use Rattle.std.proofs.Common.{◌≡◌, ℕ, ◌+◌, ◌*◌, ◌<◌, ◌≤◌, Bool, true, false, ◌&&◌, ◌||◌, eqb, leb, ◌⊎◌, List, get_or, Some, None, sym, refl, ap, ◌∙◌, inl, inr, arith}
 use Rattle.std.proofs.lemmas.Bool.{cases_eq, cases_lt, cases_Bool, or_cases, or_parts, and_right, not-true, not-false, both_ways, eq-eqb, ne_eqb, le-leb, lt-leb}
-use Rattle.std.proofs.lemmas.Nat.{mul-le}
 use Rattle.std.proofs.lemmas.Bool.Decides.{nat_tests}
 use Rattle.plan.specs.Plans.{Plan, Sound, pairs}
 use Rattle.plan.specs.Registers.{same_pair}
 use Rattle.plan.specs.declared.number.Junction.{Junction}
-use Rattle.plan.proofs.Counts.{pairs_same, pairs_more, pairs-le}
+use Rattle.plan.proofs.Counts.{pairs_same}
+use Rattle.plan.proofs.Pipes.{pairs_added}
 use Rattle.elimination.specs.Steps.{found, known, Joins, Table, NextIn, takes, taken, TakesOver, Eliminates}
 use Rattle.elimination.proofs.Neighbours.{found_parts, known_inside}
 use Rattle.elimination.proofs.Takeover.{takes_parts, takes_from, taken_cases}
@@ -92,23 +92,6 @@ module _ (h : ℕ → ℕ → Bool) (at : ℕ → ℕ) (v p : ℕ) where
   unfolding taken_to takes_to
   taken_to_next k u l ne = rw (ne_eqb u p ne, lt-leb u k l) (grind arith)
 
-pub pairs_few : (t : ℕ → ℕ → Bool) (n : ℕ) → n ≤ 512 → pairs t n ≤ 131072
-pairs_few t n h = omega (arith, pairs-le t n, mul-le n n 512 512 h h)
-
--- one pair more is found: the count rises by one
-pub found_one : (t s : ℕ → ℕ → Bool) (n p u : ℕ) → 1 ≤ p → p ≤ n → 1 ≤ u → u ≤ n → (p ≡ u → ⊥) → ((a b : ℕ) → t a b ≡ t b a) → t p u ≡ false → ((a b : ℕ) → s a b ≡ (same_pair p u a b || t a b)) → pairs s n ≡ pairs t n + 1
-found_one t s n p u i j k l ne alike none more = go (cases_lt p u)
-  where
-    others : (x y : ℕ) → ((x ≡ p) × (y ≡ u) → ⊥) → ((x ≡ u) × (y ≡ p) → ⊥) → t x y ≡ s x y
-    others x y f h = let e : same_pair p u x y ≡ false = grind (arith, nat_tests) in sym (more x y ∙ rw e refl)
-
-    there : (x y : ℕ) → same_pair p u x y ≡ true → s x y ≡ true
-    there x y e = more x y ∙ rw e refl
-
-    go : (p < u) ⊎ (u ≤ p) → pairs s n ≡ pairs t n + 1
-    go (inl o) = pairs_more t s n p u i o l none (there p u (grind (arith, nat_tests))) (λ x y q f. others x y f (λ r. omega arith))
-    go (inr o) = pairs_more t s n u p k (omega arith) j (alike u p ∙ none) (there u p (grind (arith, nat_tests))) (λ x y q f. others x y (λ r. omega arith) f)
-
 -- v's neighbours are junctions
 pub known-size : {q : Plan} {rows : List ℕ} → Sound q → Table q.size rows → (v x : ℕ) → known q rows v x ≡ true → (1 ≤ x) × (x ≤ q.size)
 known-size {q} {rows} s table v x h = go (or_cases (q.joins v x) (found q.size rows v x) h)
@@ -193,7 +176,7 @@ module _ {q : Plan} {at : ℕ → ℕ} {v p : ℕ} {before : List ℕ} (s : Soun
             record {
               marks = λ a b. j.marks a b ∙ rw (t.marks a b) (regroup (same_pair p u.0 a b) (taken_to (known q before) at v p k a b) (found q.size before a b) ∙ ap (λ (e : Bool). e || found q.size before a b) (sym (taken_to_more (known q before) at v p k u.0 next.0 between a b ∙ rw (taken_over free) refl)));
               behind = λ i l. j.behind i l ∙ t.behind i l;
-              count = omega (arith, t.count, found_one (found q.size rows) (found q.size after) q.size p u.0 1≤p p≤n inside.0 inside.1 (λ e. ne (sym e)) found_alike (or_parts (q.joins p u.0) (found q.size rows p u.0) free).1 (λ a b. j.marks a b));
+              count = omega (arith, t.count, pairs_added (found q.size rows) (found q.size after) q.size p u.0 1≤p p≤n inside.0 inside.1 (λ e. ne (sym e)) (found_alike p u.0) (or_parts (q.joins p u.0) (found q.size rows p u.0) free).1 (λ a b. j.marks a b));
             }
           where
             regroup : (x y z : Bool) → (x || (y || z)) ≡ ((x || y) || z)

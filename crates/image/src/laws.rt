@@ -1,6 +1,8 @@
-//! What holds of every sound image, and of every image that is written.
+//! What holds of every sound image and of every image that is written, and small images whose
+//! verdicts follow from the definitions alone.
 ghost use Rattle.std.specs.Prelude.{◌≡◌};
 ghost use Rattle.image.specs.Laws.{ImageLaws};
+ghost use Rattle.image.specs.Worked.{WorkedImages};
 ghost use Rattle.image.specs.Writing.{RoundTrips, RecordsRise};
 
 /// In a sound image every record is in exactly one chain, that of its near end; no two records
@@ -21,6 +23,15 @@ pub fn round_trips() -> u8
     ensures value { result ≡ 0 }
     ensures trips { RoundTrips }
     ensures rise { RecordsRise }
+{
+    0
+}
+
+/// The image of the ring of four junctions, with one byte more, and with a fifth record in no
+/// chain. That is what the contract says. Answers 0.
+pub fn worked_images() -> u8
+    ensures value { result ≡ 0 }
+    ensures worked { WorkedImages }
 {
     0
 }

@@ -14,6 +14,6 @@ mod writer;
 
 pub use checked::CheckedImage;
 pub use header::{Header, IMAGE_LIMIT};
-pub use laws::{image_laws, round_trips};
+pub use laws::{image_laws, round_trips, worked_images};
 pub use reader::{check, record_ends};
 pub use writer::write;

@@ -14,7 +14,7 @@ use Rattle.elimination.proofs.Laws.{no_fill_law_lem}
 use Rattle.ring.specs.Calls.{Found}
 use Rattle.ring.specs.Rings.{NoRing}
 use Rattle.plan.specs.Refusals.{carried, checked}
-use Rattle.order.specs.Reports.{FreeOfFill, FreeWhenPossible, RingShown, short}
+use Rattle.order.specs.Reports.{FreeOfFill, Least, RingShown, short}
 use Rattle.order.proofs.Bridges.{Witness}
 use Rattle.order.proofs.Chordal.{place_bounded, no_ring_if_perfect, perfect_if_no_ring}
 
@@ -38,8 +38,8 @@ module _ {L : Type 0} (blank : L) (raised : L → ℕ → L) (compared : L → L
   free_from_no_ring : NoRing p → FreeOfFill p us
   free_from_no_ring none = (no_fill_law_lem p sound us).0.1 (perfect_if_no_ring p sound us is_order witness none)
 
-  pub free_when_possible : FreeWhenPossible p us
-  free_when_possible = record {
+  pub least : Least p us
+  least = record {
     order = (λ h. (us, s.order, h), λ w. free_from_no_ring (from w.0 w.1 w.2));
     ring = (from us s.order, free_from_no_ring);
   }
@@ -56,7 +56,7 @@ module _ {L : Type 0} (blank : L) (raised : L → ℕ → L) (compared : L → L
   -- the ring beside the order
   pub shown_none : (fills : ℕ) (before : List Junction) → fills ≡ pairs (fill p.joins us) p.size → fills ≡ 0 → RingShown p fills before before 0
   shown_none fills before e z = record {
-    none = λ y. (refl, free_when_possible.ring.0 ((free_count fills e).0 z), refl);
+    none = λ y. (refl, least.ring.0 ((free_count fills e).0 z), refl);
     some = λ l. absurd (omega arith);
   }
 

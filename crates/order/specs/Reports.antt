@@ -18,7 +18,7 @@ abbrev pub FreeOfFill : Plan → List ℕ → Type 0
 FreeOfFill p us = (v w : ℕ) → fill p.joins us v w ≡ false
 
 -- an order has no fill exactly when some order of the plan has none, and exactly when the plan has no ring
-pub record FreeWhenPossible (p : Plan) (us : List ℕ) : Type 0 where
+pub record Least (p : Plan) (us : List ℕ) : Type 0 where
   pub order : FreeOfFill p us ↔ ((ws : List ℕ) × (ordered p.size ws ≡ true) × FreeOfFill p ws)
   pub ring : FreeOfFill p us ↔ NoRing p
 
@@ -40,7 +40,7 @@ pub record Ordered {L : Type 0} (blank : L) (raised : L → ℕ → L) (compared
   pub count : report.fill ≡ pairs (fill p.joins (take p.size (numbers places'))) p.size
   pub cells_are : report.cells ≡ cells p (take p.size (numbers places'))
   pub free : (report.fill ≡ 0) ↔ FreeOfFill p (take p.size (numbers places'))
-  pub possible : FreeWhenPossible p (take p.size (numbers places'))
+  pub least : Least p (take p.size (numbers places'))
   pub shown : RingShown p report.fill ring ring' report.ring
   -- entries behind those named stay
   pub places_behind : KeptFrom p.size places places'

@@ -46,11 +46,11 @@ impl Listener for Printer<'_> {
 pub fn print_visit<M: Maker + Drop>(rt: &HostRuntime, maker: M) -> io::Result<()> {
     let heap = rt.alloc();
     // One byte more than a sheet can have, so that a longer input is turned down as too long.
-    let sheet = read_input(rt, SHEET_LIMIT + 1)?;
+    let sheet = read_input(rt, SHEET_LIMIT as u64 + 1)?;
     let mut places = filled(heap, Junction(0), 512)?;
     let mut ring = filled(heap, Junction(0), 512)?;
     let mut rows = filled(heap, 0u64, 8 * 512)?;
-    let mut labels = filled(heap, EitherLabel::Second(Count::zero()), 512)?;
+    let mut labels = filled(heap, EitherLabel::Second(Count(0)), 512)?;
     let mut scratch = filled(heap, 0u16, 2 * 512)?;
     let mut printer = Printer { rt };
     visit(

@@ -1,7 +1,7 @@
 use Rattle.std.proofs.Common.{◌+◌, ◌-◌, ◌≤◌, arith}
 use Rattle.plan.specs.Plans.{pairs}
+use Rattle.plan.proofs.Counts.{pairs_few}
 use Rattle.elimination.proofs.Counting.{pairs_next}
-use Rattle.elimination.proofs.Parents.{pairs_few}
 use Rattle.elimination.proofs.cells.pipes.Goals as goal
 
 pub loop-w-preserved : goal.loop-w-preserved

@@ -1,10 +1,10 @@
 use Rattle.std.proofs.Common.{◌≡◌, ◌<◌, true, length, get_or, refl, arith}
 use Rattle.plan.specs.Orders.{numbers, ordered}
+use Rattle.plan.proofs.Counts.{pairs_few}
 use Rattle.plan.proofs.Numbers.{length-numbers, getD_numbers}
 use Rattle.plan.proofs.Orders.{IsOrder, order_of}
 use Rattle.elimination.specs.Steps.{found, Places}
 use Rattle.elimination.proofs.Filling.{filling_none, filling_table, filling_more, filling_all, fills_since, carried_out}
-use Rattle.elimination.proofs.Parents.{pairs_few}
 use Rattle.elimination.proofs.elimination.fill.Goals as goal
 
 pub loop-v-init : goal.loop-v-init

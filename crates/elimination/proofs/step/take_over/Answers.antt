@@ -1,6 +1,7 @@
 use Rattle.std.proofs.Common.{◌≤◌, arith}
-use Rattle.elimination.specs.Steps.{found, at}
-use Rattle.elimination.proofs.Parents.{pairs_few, taking_none, own_inside, taking_early, taking_same, taking_kept, taking_joined, takes_over}
+use Rattle.plan.proofs.Counts.{pairs_few}
+use Rattle.elimination.specs.Steps.{found}
+use Rattle.elimination.proofs.Parents.{taking_none, own_inside, taking_early, taking_same, taking_kept, taking_joined, takes_over}
 use Rattle.elimination.proofs.step.take_over.Goals as goal
 use Rattle.elimination.proofs.step.take_over.Goals.{else-place_of-via-then-place_of+then-u-p+else-join, else-place_of-via-then-place_of+else-u-p, else-place_of-via-else-place_of}
 

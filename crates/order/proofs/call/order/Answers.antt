@@ -11,7 +11,7 @@ use Rattle.search.specs.Theorems.{LateNeighbours}
 use Rattle.elimination.specs.Elimination.{fill, cells}
 use Rattle.elimination.specs.Rows.{Fills, fill_verdict}
 use Rattle.order.specs.Reports.{RingShown}
-use Rattle.order.proofs.Verdict.{free_when_possible, free_count, shown_none, shown_some, part_numbers, fill_carried, long_enough}
+use Rattle.order.proofs.Verdict.{least, free_count, shown_none, shown_some, part_numbers, fill_carried, long_enough}
 use Rattle.order.proofs.call.order.Given as given
 use Rattle.order.proofs.call.order.Goals as goal
 use Rattle.order.proofs.call.order.Goals.{In-Ok, In-Ok-fill, then-fill-gt0+in-Ok-find_ring, else-fill-gt0}
@@ -87,7 +87,7 @@ returns g c =
           count = f.counted;
           cells_are = ap₂ (λ (x y : ℕ). x + y) c.pipes.ensures f.counted;
           free = free_count _ _ _ l p sound _ s c.in-Ok-fill.fill f.counted;
-          possible = free_when_possible _ _ _ l p sound _ s;
+          least = least _ _ _ l p sound _ s;
           shown = ring.0;
           places_behind = left.1;
           rows_behind = f.behind;
