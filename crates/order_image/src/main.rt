@@ -11,7 +11,7 @@ use image_order::{PIPES, order_image};
 use label::{Kind, Lexicographic};
 use plan::Junction;
 use std::io;
-use visit::Listing;
+use ledger_visit::Listing;
 
 // Prints the order of the image that standard input, or the file named, has.
 fn main(rt: HostRuntime) -> io::Result<()> {

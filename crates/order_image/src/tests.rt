@@ -5,7 +5,7 @@ use plan::Junction;
 use std::alloc::Global;
 use std::process::Abort;
 use std::test::Fail;
-use visit::Listing;
+use ledger_visit::Listing;
 
 /// The ring of four junctions.
 const RING: &[u8; 40] =

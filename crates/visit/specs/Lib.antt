@@ -1,4 +1,1 @@
-pub mod Kinds
-pub mod Listings
 pub mod Openings
-pub mod Visits

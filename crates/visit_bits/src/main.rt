@@ -9,7 +9,7 @@ use edge::filled_or_empty;
 use plan::TurnedDown;
 use printer::print_visit;
 use std::io;
-use visit::Maker;
+use ledger_visit::Maker;
 
 // Makes a bit register in the memory that it holds.
 #[derive(Drop)]

@@ -9,7 +9,7 @@ use edge::filled_or_empty;
 use plan::TurnedDown;
 use printer::print_visit;
 use std::io;
-use visit::Maker;
+use ledger_visit::Maker;
 
 // The most pipes that the register of a visit takes.
 const PIPES: u16 = 8000;

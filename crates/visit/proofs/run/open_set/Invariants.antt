@@ -1,13 +1,8 @@
-use Rattle.std.proofs.Common.{◌≡◌, ℕ, Bool, length}
-use Rattle.calls.specs.Heard.{lists_of}
-use Rattle.visit.specs.Visits.{no_set}
-use Rattle.visit.proofs.Visiting.{Gone}
+use Rattle.std.proofs.Common.{◌≤◌, length}
 use Rattle.visit.proofs.run.open_set.Given as goal
 
 abbrev pub invariant-loop-rest : goal.invariant-loop-rest
-invariant-loop-rest g l =
-    ((tight : ℕ → Bool) → Gone tight (g.M.Maker.spare l.initial.maker) (g.M.Maker.full l.initial.maker) no_set (lists_of l.places l.ring l.rows) l.sheet l.rest no_set (lists_of l.places l.ring l.rows) (g.L.Listener.log l.initial.listener) (g.L.Listener.log l.listener))
-    × (l.maker ≡ l.initial.maker)
+invariant-loop-rest g l = length l.rest ≤ length l.sheet
 
 abbrev pub decreases-loop-rest : goal.decreases-loop-rest
 decreases-loop-rest g l = length l.rest

@@ -7,7 +7,7 @@ use Rattle.sheet.specs.Lines.{front, back, lines, before_first}
 use Rattle.calls.specs.Deeds.{Deed, next}
 use Rattle.calls.specs.Heard.{Heard, Lists, Told}
 use Rattle.calls.specs.Runs.{Answered, Ran, RanOrFailed, last_lists}
-use Rattle.visit.specs.Visits.{Stage, LineHeard, Visited}
+use Rattle.ledger_visit.specs.Visits.{Stage, LineHeard, Visited}
 
 -- the first line of a sheet, and those behind
 pub lines_first : (b : ℕ) (bs : List ℕ) → lines (b ∷ bs) ≡ front 10 (b ∷ bs) ∷ lines (drop 1 (back 10 (b ∷ bs)))

@@ -1,8 +1,8 @@
 use Rattle.std.proofs.Common.{◌≡◌, true, ◌++◌, codes, sym, refl, ap, ◌∙◌}
 use Rattle.std.proofs.Output.{has_written_append, has_written_of_eq}
 use Rattle.std.specs.Fmt.{HasWritten}
-use Rattle.visit.specs.Listings.{junction_line, fill_line, ring_line, listing}
-use Rattle.visit.proofs.listing.ListingDisplay.fmt.Goals as goal
+use Rattle.ledger_visit.specs.Listings.{junction_line, fill_line, ring_line, listing}
+use Rattle.ledger_visit.proofs.listing.ListingDisplay.fmt.Goals as goal
 
 pub returns-in_ok-write_fill-in-Ordered-clause-writes : goal.returns-in_ok-write_fill-in-Ordered-clause-writes
 returns-in_ok-write_fill-in-Ordered-clause-writes g c plain e =

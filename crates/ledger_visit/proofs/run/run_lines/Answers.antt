@@ -2,8 +2,8 @@ use Rattle.std.proofs.Common.{◌≡◌, ℕ, ◌*◌, refl, ap, ◌∙◌}
 use mathlib.Core.Path.{fun_ext}
 use Rattle.order.specs.Reports.{short}
 use Rattle.calls.proofs.Runs.{kept-both, short_same}
-use Rattle.visit.proofs.Visiting.{none_gone, heard_same, gone_next, all_gone}
-use Rattle.visit.proofs.run.run_lines.Goals as goal
+use Rattle.ledger_visit.proofs.Visiting.{none_gone, heard_same, gone_next, all_gone}
+use Rattle.ledger_visit.proofs.run.run_lines.Goals as goal
 
 pub loop-rest-init : goal.loop-rest-init
 loop-rest-init g c = ((λ spare full. none_gone _ spare full _ _ _ _), refl, (λ k d h. refl), λ k d h. refl)

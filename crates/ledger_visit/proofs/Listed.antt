@@ -2,7 +2,7 @@
 use Rattle.std.proofs.Common.{◌≡◌, ℕ, zero, suc, ◌+◌, ◌<◌, List, [], ◌∷◌, ◌++◌, length, get_or, take, decimal, sym, ap, ◌∙◌, append_assoc, append-nil, arith}
 use native.Mathlib.Numerals.{unary_clauses}
 use Rattle.plan.specs.declared.number.Junction.{Junction}
-use Rattle.visit.specs.Listings.{spaced}
+use Rattle.ledger_visit.specs.Listings.{spaced}
 
 spaced-suc : (xs : List Junction) (i : ℕ) (d : Junction) → i < length xs → spaced (take (suc i) xs) ≡ spaced (take i xs) ++ (32 ∷ decimal (get_or xs i d).0)
 spaced-suc [] i d l = absurd (omega arith)

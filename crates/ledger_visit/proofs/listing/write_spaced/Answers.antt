@@ -2,9 +2,9 @@ use Rattle.std.proofs.Common.{true, ◌∷◌, get_or, take, decimal, refl, ap}
 use Rattle.std.proofs.Output.{writes_in_calls_nil, has_written_append, has_written_of_eq}
 use Rattle.std.proofs.lemmas.List.{take_all}
 use Rattle.std.specs.Fmt.{HasWritten}
-use Rattle.visit.specs.Listings.{spaced}
-use Rattle.visit.proofs.Listed.{spaced_more}
-use Rattle.visit.proofs.listing.write_spaced.Goals as goal
+use Rattle.ledger_visit.specs.Listings.{spaced}
+use Rattle.ledger_visit.proofs.Listed.{spaced_more}
+use Rattle.ledger_visit.proofs.listing.write_spaced.Goals as goal
 
 pub loop-j-init : goal.loop-j-init
 loop-j-init g c plain = record { wrote = writes_in_calls_nil g.W.Write.write_str_gives c.args.f.now.writer; plain = plain }

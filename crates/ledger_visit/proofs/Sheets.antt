@@ -9,10 +9,10 @@ use Rattle.sheet.specs.Lines.{lines}
 use Rattle.calls.specs.Heard.{Heard, Lists, Told}
 use Rattle.calls.specs.Runs.{last_lists}
 use Rattle.calls.specs.declared.answer.Answer.TheVariants.{Refused}
-use Rattle.visit.specs.Openings.{LinesHeard, OpenedOf, Opening}
-use Rattle.visit.specs.Visits.{Stage, no_set, with_set, Visited, SheetHeard, VisitHeard}
-use Rattle.visit.specs.declared.run.Opened.TheVariants.{Made, Ended}
-use Rattle.visit.proofs.Visiting.{visited_both, last_lists-both, told_both}
+use Rattle.ledger_visit.specs.Openings.{LinesHeard, OpenedOf, Opening}
+use Rattle.ledger_visit.specs.Visits.{Stage, no_set, with_set, Visited, SheetHeard, VisitHeard}
+use Rattle.ledger_visit.specs.declared.run.Opened.TheVariants.{Made, Ended}
+use Rattle.ledger_visit.proofs.Visiting.{visited_both, last_lists-both, told_both}
 
 -- the one answer to a sheet that is too long
 abbrev pub too_long : Lists → Heard

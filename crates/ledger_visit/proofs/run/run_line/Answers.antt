@@ -7,10 +7,10 @@ use Rattle.calls.specs.Heard.{lists_of, heard_with}
 use Rattle.calls.specs.declared.answer.Answer.TheVariants.{Refused}
 use Rattle.plan.specs.declared.refusal.Refusal.TheVariants.{NoCall}
 use Rattle.calls.proofs.Runs.{next-size}
-use Rattle.visit.specs.Kinds.{SheetKind, empty_label, raised_label, compared_labels}
-use Rattle.visit.specs.Visits.{CallHeard, with_set}
-use Rattle.visit.proofs.Visiting.{single}
-use Rattle.visit.proofs.run.run_line.Goals as goal
+use Rattle.ledger_visit.specs.Kinds.{SheetKind, empty_label, raised_label, compared_labels}
+use Rattle.ledger_visit.specs.Visits.{CallHeard, with_set}
+use Rattle.ledger_visit.proofs.Visiting.{single}
+use Rattle.ledger_visit.proofs.run.run_line.Goals as goal
 
 pub returns-in-Some : goal.returns-in-Some
 returns-in-Some g c =

@@ -1,7 +1,7 @@
 use Rattle.std.proofs.Common.{◌≡◌, true, refl, ap, ◌∙◌}
 use Rattle.calls.specs.Heard.{lists_of}
-use Rattle.visit.proofs.Visiting.{none_gone, heard_same, gone_next, all_gone}
-use Rattle.visit.proofs.run.open_set.Goals as goal
+use Rattle.ledger_visit.proofs.Visiting.{none_gone, heard_same, gone_next, all_gone}
+use Rattle.ledger_visit.proofs.run.open_set.Goals as goal
 
 pub loop-rest-init : goal.loop-rest-init
 loop-rest-init g c = ((λ tight. none_gone tight _ _ _ _ _ _), refl)

@@ -1,7 +1,7 @@
 //! How a listing shows the answer to a line of a sheet.
 ghost use Rattle.std.specs.Prelude.{◌≡◌, take, Some};
 ghost use Rattle.std.specs.Fmt.{WritesOnOk};
-ghost use Rattle.visit.specs.Listings.{spaced, junction_line, fill_line, ring_line, listing};
+ghost use Rattle.ledger_visit.specs.Listings.{spaced, junction_line, fill_line, ring_line, listing};
 
 use calls::Answer;
 use order::Report;

@@ -4,11 +4,11 @@ use Rattle.plan.specs.Memory.{KeptFrom}
 use Rattle.order.specs.Reports.{short}
 use Rattle.set.specs.Kept.{ledger}
 use Rattle.calls.specs.Heard.{lists_of}
-use Rattle.visit.specs.Openings.{OpenedOf}
-use Rattle.visit.specs.Visits.{no_set, with_set}
-use Rattle.visit.specs.declared.run.Opened.{Opened}
-use Rattle.visit.proofs.Sheets.{sheet_too_long, sheet_ended, sheet_stopped, sheet_made}
-use Rattle.visit.proofs.run.visit.Goals as goal
+use Rattle.ledger_visit.specs.Openings.{OpenedOf}
+use Rattle.ledger_visit.specs.Visits.{no_set, with_set}
+use Rattle.ledger_visit.specs.declared.run.Opened.{Opened}
+use Rattle.ledger_visit.proofs.Sheets.{sheet_too_long, sheet_ended, sheet_stopped, sheet_made}
+use Rattle.ledger_visit.proofs.run.visit.Goals as goal
 
 pub returns-then-sheet-gt-SHEET_LIMIT : goal.returns-then-sheet-gt-SHEET_LIMIT
 returns-then-sheet-gt-SHEET_LIMIT g c = record {

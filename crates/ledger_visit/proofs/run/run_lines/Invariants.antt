@@ -3,9 +3,9 @@ use Rattle.plan.specs.Memory.{KeptFrom}
 use Rattle.order.specs.Reports.{short}
 use Rattle.set.specs.Kept.{ledger}
 use Rattle.calls.specs.Heard.{lists_of}
-use Rattle.visit.specs.Visits.{with_set}
-use Rattle.visit.proofs.Visiting.{Gone}
-use Rattle.visit.proofs.run.run_lines.Given as goal
+use Rattle.ledger_visit.specs.Visits.{with_set}
+use Rattle.ledger_visit.proofs.Visiting.{Gone}
+use Rattle.ledger_visit.proofs.run.run_lines.Given as goal
 
 abbrev pub invariant-loop-rest : goal.invariant-loop-rest
 invariant-loop-rest g l =

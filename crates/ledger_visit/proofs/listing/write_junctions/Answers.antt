@@ -1,8 +1,8 @@
 use Rattle.std.proofs.Common.{true, [], ◌∷◌, ◌++◌, refl}
 use Rattle.std.proofs.Output.{has_written_append}
 use Rattle.std.specs.Fmt.{HasWritten}
-use Rattle.visit.specs.Listings.{spaced}
-use Rattle.visit.proofs.listing.write_junctions.Goals as goal
+use Rattle.ledger_visit.specs.Listings.{spaced}
+use Rattle.ledger_visit.proofs.listing.write_junctions.Goals as goal
 
 pub returns : goal.returns
 returns g c plain e =

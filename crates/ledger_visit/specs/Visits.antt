@@ -15,7 +15,7 @@ use Rattle.sheet.specs.declared.call.Call.TheVariants.{New, Join, Cut, Shut, Ope
 use Rattle.calls.specs.Deeds.{Deed, joins, cuts, shuts, opens, orders, next}
 use Rattle.calls.specs.Heard.{Heard, Lists, said, Told}
 use Rattle.calls.specs.Runs.{Answered, ChangeHeard, last_lists}
-use Rattle.visit.specs.Kinds.{SheetKind, empty_label, raised_label, compared_labels}
+use Rattle.ledger_visit.specs.Kinds.{SheetKind, empty_label, raised_label, compared_labels}
 
 -- how far a visit is: it has no set yet, or one that keeps a ledger
 pub data Stage : Type 0 where
