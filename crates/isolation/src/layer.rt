@@ -105,7 +105,8 @@ impl<R: Register> ReadablePlan for Isolation<R> {
         }
         let mut last = w;
         while let Some(u) = self.below.next(v, last) {
-            if self.states.is_open(u) {
+            let seen = self.states.is_open(u);
+            if seen {
                 return Some(u);
             }
             last = u;

@@ -1,4 +1,4 @@
-use Rattle.std.proofs.Common.{sym, arith}
+use Rattle.std.proofs.Common.{sym, ◌∙◌, arith}
 use Rattle.isolation.specs.States.{opens}
 use Rattle.isolation.specs.Seen.{shut_hides_left}
 use Rattle.isolation.proofs.Walk.{scan_past_shut, scan_finds, scan_ends, scan_falls}
@@ -15,11 +15,11 @@ loop-u-smaller g c =
     scan_falls (g.R.ReadablePlan.meaning c.args.self.now.below) _ _ c.in-Some.u (g.met.R.ReadablePlan.sound c.args.self.now.below) c.in-Some.ensures
 
 pub loop-u-preserved : goal.loop-u-preserved
-loop-u-preserved g c = scan_past_shut _ _ _ _ _ c.loop-u.invariant c.in-Some.u c.in-Some.ensures (sym c.if-is_open.ensures)
+loop-u-preserved g c = scan_past_shut _ _ _ _ _ c.loop-u.invariant c.in-Some.u c.in-Some.ensures (sym c.is_open-seen.ensures ∙ c.if-seen.false)
 
-pub returns-then-is_open : goal.returns-then-is_open
-returns-then-is_open g c =
-    scan_finds _ _ _ _ _ c.loop-u.invariant (g.met.R.ReadablePlan.sound c.args.self.now.below) c.in-Some.u c.in-Some.ensures (sym c.if-not-is_open.ensures) (sym c.if-is_open.ensures)
+pub returns-then-seen : goal.returns-then-seen
+returns-then-seen g c =
+    scan_finds _ _ _ _ _ c.loop-u.invariant (g.met.R.ReadablePlan.sound c.args.self.now.below) c.in-Some.u c.in-Some.ensures (sym c.if-not-is_open.ensures) (sym c.is_open-seen.ensures ∙ c.if-seen.true)
 
 pub returns : goal.returns
 returns g c = scan_ends _ _ _ _ _ c.loop-u.invariant c.in_default.ensures
