@@ -1,8 +1,8 @@
 -- The law of no fill and the path law.
-use Rattle.std.proofs.Common.{◌≡◌, ℕ, zero, suc, ◌+◌, ◌<◌, ◌≤◌, min, Bool, true, false, ◌⊎◌, List, sym, refl, ap, ◌∙◌, inl, inr, arith}
+use Rattle.std.proofs.Common.{◌≡◌, ℕ, zero, suc, ◌<◌, ◌≤◌, min, Bool, true, false, ◌⊎◌, List, sym, refl, ap, ◌∙◌, inl, inr, arith}
 use Rattle.std.proofs.lemmas.Bool.{cases_eq, cases_lt, cases_Bool, both_ways}
 use Rattle.plan.specs.Plans.{Plan, Sound, pairs}
-use Rattle.plan.specs.Orders.{ordered, place}
+use Rattle.plan.specs.Orders.{place}
 use Rattle.plan.proofs.Counts.{pairs-none}
 use Rattle.plan.proofs.Orders.{IsOrder, order_of, place_apart}
 use Rattle.elimination.specs.Elimination.{new, eliminated, fill, filled, cells}

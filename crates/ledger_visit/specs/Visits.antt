@@ -4,9 +4,7 @@ use Rattle.plan.specs.declared.turned_down.TurnedDown.{TurnedDown}
 use Rattle.plan.specs.Memory.{KeptFrom}
 use Rattle.plan.specs.Plans.{Plan, within, blank}
 use Rattle.plan.specs.Refusals.{Verdict, carried, refused, number, values, checked, after}
-use Rattle.label.specs.declared.counting.Counting.{Counting}
 use Rattle.label.specs.declared.either.Either.TheVariants as kind
-use Rattle.label.specs.declared.lexicographic.Lexicographic.{Lexicographic}
 use Rattle.set.specs.Ledgers.{Ledger, opened}
 use Rattle.sheet.specs.Calls.{Spelled}
 use Rattle.sheet.specs.Lines.{lines}

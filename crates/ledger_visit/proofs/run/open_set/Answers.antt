@@ -1,4 +1,4 @@
-use Rattle.std.proofs.Common.{◌≡◌, true, refl, ap, ◌∙◌}
+use Rattle.std.proofs.Common.{true, refl, ap, ◌∙◌}
 use Rattle.calls.specs.Heard.{lists_of}
 use Rattle.ledger_visit.proofs.Visiting.{none_gone, heard_same, gone_next, all_gone}
 use Rattle.ledger_visit.proofs.run.open_set.Goals as goal
