@@ -6,7 +6,7 @@ use Rattle.plan.specs.Plans.{Plan, count}
 use Rattle.image.specs.Images.{field, bytes_of, image_of, head_at, record_at}
 use Rattle.image.specs.Writing.{upper, uppers, pipes_to, link, heads, chain_to, records_to, written}
 use Rattle.image.proofs.Stretches.{bytes_append, length_chain, length_records, length_heads}
-use Rattle.image.specs.Uppers.{count_one, count-nil, uppers_mono, pipes_to_step, pipes_to_le}
+use Rattle.image.proofs.Uppers.{count_one, count-nil, uppers_mono, pipes_to_step, pipes_to_le}
 
 -- the fields of bytes made from fields
 field_bytes : (xs : List ℕ) (k : ℕ) → field (bytes_of xs) (2 * k) ≡ get_or xs k 0

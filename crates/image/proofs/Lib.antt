@@ -1,5 +1,9 @@
+pub mod Countings
 pub mod Layouts
 pub mod Rising
 pub mod RoundTrips
+pub mod Seeks
+pub mod SoundImages
 pub mod Stretches
+pub mod Uppers
 pub mod Writes

@@ -5,7 +5,7 @@ use Rattle.plan.specs.Plans.{Plan}
 use Rattle.image.specs.Images.{image_of}
 use Rattle.image.specs.Writing.{upper, uppers, written, Below}
 use Rattle.image.proofs.Layouts.{rank, Recorded, recorded, counted, uppers_some, find_record}
-use Rattle.image.specs.Uppers.{uppers_mono, pipes_to_step, pipes_to_le}
+use Rattle.image.proofs.Uppers.{uppers_mono, pipes_to_step, pipes_to_le}
 
 -- where the record of index i stands for the pipe from v to w
 record Stands (p : Plan) (i v w : ℕ) : Type 0 where

@@ -13,7 +13,7 @@ use Rattle.image.specs.Headers.{InRange, verdict_chains}
 use Rattle.image.proofs.Layouts.{rank, Recorded, recorded, headed, sized, counted, uppers_some, find_record, written-size, written_records, written_edition, written_zero}
 use Rattle.image.specs.RangesLemmas.{some_at, some_one}
 use Rattle.image.specs.Sounds.{Chained, chained_verdict, pipe_alike}
-use Rattle.image.specs.Uppers.{count_one, count_mono, uppers_mono, uppers_least, pipes_to_step, pipes_to_le, pipes_pairs, link_some, link_none}
+use Rattle.image.proofs.Uppers.{count_one, count_mono, uppers_mono, uppers_least, pipes_to_step, pipes_to_le, pipes_pairs, link_some, link_none}
 use Rattle.image.specs.Walks.{Member, member_follows, sound_end, sound_step, reaches_step}
 use Rattle.image.proofs.Writes.{length_written}
 

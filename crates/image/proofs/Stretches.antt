@@ -9,7 +9,7 @@ use Rattle.plan.specs.Plans.{Plan, Sound, NextNeighbour, count}
 use Rattle.plan.proofs.Counts.{count_none}
 use Rattle.image.specs.Images.{bytes_of}
 use Rattle.image.specs.Writing.{upper, uppers, pipes_to, link, heads, chain_to, records_to}
-use Rattle.image.specs.Uppers.{uppers_none, uppers_next, uppers_end, uppers_mono, pipes_to_step, link_some, link_none}
+use Rattle.image.proofs.Uppers.{uppers_none, uppers_next, uppers_end, uppers_mono, pipes_to_step, link_some, link_none}
 
 pub bytes_append : (xs ys : List ℕ) → bytes_of (xs ++ ys) ≡ bytes_of xs ++ bytes_of ys
 bytes_append [] ys = refl

@@ -8,7 +8,7 @@ use Rattle.plan.specs.Refusals.{carried, refused}
 use Rattle.image.specs.Images.{bytes_of, image_length}
 use Rattle.image.specs.Writing.{pipes_to, heads, records_to, written, write_verdict}
 use Rattle.image.proofs.Stretches.{length_bytes, length_heads, length_records}
-use Rattle.image.specs.Uppers.{pipes_pairs}
+use Rattle.image.proofs.Uppers.{pipes_pairs}
 
 module _ (p : Plan) where
   pub length_written : length (written p) ≡ image_length p.size (pipes_to p p.size)

@@ -6,11 +6,10 @@ use Rattle.plan.specs.declared.number.Junction.{Junction}
 use Rattle.plan.specs.Plans.{Plan, Sound, NextNeighbour}
 use Rattle.image.specs.declared.checked.CheckedImage.{CheckedImage}
 use Rattle.image.specs.Checked.{plan_in, LowerNeighbour}
-use Rattle.image.specs.SoundImages.{sound_laws}
-use Rattle.image.specs.Sounds.{is_sound_carried}
+use Rattle.image.specs.Sounds.{image_sound, is_sound_carried}
 
 pub checked_sound : (c : CheckedImage) → Sound (plan_in c)
-checked_sound c = (sound_laws (vec_items c.bytes) (is_sound_carried (vec_items c.bytes) c.sound)).plan
+checked_sound c = image_sound (vec_items c.bytes) (is_sound_carried (vec_items c.bytes) c.sound)
 
 module _ (p : Plan) (s : Sound p) where
   pub outside_apart : (v w : ℕ) → p.serves v ≡ false → p.joins v w ≡ false

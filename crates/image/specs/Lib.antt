@@ -7,12 +7,8 @@ pub mod Reading
 pub mod Worked
 pub mod Writing
 pub mod CheckedPlans
-pub mod SoundImages
-pub mod Countings
 pub mod RangesLemmas
-pub mod Seeks
 pub mod Sounds
 pub mod Headers
 pub mod Tallies
 pub mod Walks
-pub mod Uppers

@@ -202,3 +202,10 @@ sound_laid bytes h s n-is r-is =
       most = omega (arith, p.range.most);
       long = omega (arith, p.long);
     }
+
+-- the plan of an image that is carried
+pub image_sound : (bytes : List ℕ) → read_verdict bytes ≡ carried → Sound (plan_of (image_of bytes))
+unfolding image_of
+image_sound bytes h =
+    let p : Carried bytes = carried_parts bytes h in
+    plan_sound (image_of bytes) (sound_chained bytes h) p.range.some p.range.few

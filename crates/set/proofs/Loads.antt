@@ -12,7 +12,7 @@ use Rattle.image.specs.Laws.{SoundLaws}
 use Rattle.image.specs.Ranges.{some}
 use Rattle.image.specs.Reading.{read_verdict, has_record}
 use Rattle.image.specs.RangesLemmas.{some-none}
-use Rattle.image.specs.SoundImages.{sound_laws, record_present}
+use Rattle.image.proofs.SoundImages.{sound_laws, record_present}
 use Rattle.plan.proofs.Pipes.{within_parts}
 use Rattle.image.specs.Sounds.{within_from}
 use Rattle.set.specs.Laws.{WritesPipes, LoadLaws}

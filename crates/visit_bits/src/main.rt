@@ -6,10 +6,10 @@ ghost use Rattle.std.specs.Prelude.{◌-◌, ◌*◌, ◌/◌, vec_len, nat_lt};
 
 use bits::BitRegister;
 use edge::filled_or_empty;
+use ledger_visit::Maker;
 use plan::TurnedDown;
 use printer::print_visit;
 use std::io;
-use ledger_visit::Maker;
 
 // Makes a bit register in the memory that it holds.
 #[derive(Drop)]

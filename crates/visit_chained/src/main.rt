@@ -6,10 +6,10 @@ ghost use Rattle.std.specs.Prelude.{◌+◌, vec_len, nat_lt};
 
 use chained::ChainedRegister;
 use edge::filled_or_empty;
+use ledger_visit::Maker;
 use plan::TurnedDown;
 use printer::print_visit;
 use std::io;
-use ledger_visit::Maker;
 
 // The most pipes that the register of a visit takes.
 const PIPES: u16 = 8000;

@@ -2,7 +2,7 @@
 ghost use Rattle.std.specs.Prelude.{◌≡◌};
 ghost use Rattle.plan.specs.Plans.{within};
 ghost use Rattle.bits.specs.Making.{plan_of};
-ghost use Rattle.std.proofs.Common.{rules, arith};
+ghost use Rattle.std.proofs.Common.{rules};
 
 use crate::register::BitRegister;
 use crate::rows::cell_of;
@@ -21,7 +21,7 @@ impl BitRegister {
 impl ReadablePlan for BitRegister {
     ghost meaning = { plan_of };
 
-    ghost sound = { first_of (Prim.search rules, Prim.grind (arith, Self.row.coded.inj)) };
+    ghost sound = { Prim.search rules };
 
     fn size(&self) -> u16 {
         self.n

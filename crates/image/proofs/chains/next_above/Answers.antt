@@ -1,6 +1,6 @@
 use Rattle.std.proofs.Common.{arith}
 use Rattle.image.specs.Images.{image_of}
-use Rattle.image.specs.Seeks.{Seeking, Step, seek_starts, seek_steps, seek_goes_on, seek_falls, seek_finds, seek_ends}
+use Rattle.image.proofs.Seeks.{Seeking, Step, seek_starts, seek_steps, seek_goes_on, seek_falls, seek_finds, seek_ends}
 use Rattle.plan.proofs.Pipes.{within_parts}
 use Rattle.image.specs.Sounds.{sound_chained, is_sound_carried}
 use Rattle.image.proofs.chains.next_above.Goals as goal

@@ -1,6 +1,6 @@
 use Rattle.std.proofs.Common.{◌≡◌, ℕ, ◌≤◌}
 use Rattle.image.specs.Images.{image_of}
-use Rattle.image.specs.Seeks.{Seeking, ahead}
+use Rattle.image.proofs.Seeks.{Seeking, ahead}
 use Rattle.image.proofs.chains.next_above.Given as goal
 
 -- v itself is not in use in the loop: the chain is known by its first index

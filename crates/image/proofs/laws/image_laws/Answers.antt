@@ -1,5 +1,5 @@
 use Rattle.std.proofs.Common.{refl}
-use Rattle.image.specs.SoundImages.{sound_laws, record_present, lost_refused}
+use Rattle.image.proofs.SoundImages.{sound_laws, record_present, lost_refused}
 use Rattle.image.proofs.laws.image_laws.Goals as goal
 
 pub returns : goal.returns

@@ -1,6 +1,6 @@
 use Rattle.std.proofs.Common.{◌+◌, ◌-◌, refl, arith}
 use Rattle.image.specs.Writing.{pipes_to}
-use Rattle.image.specs.Uppers.{pipes_to_next, pipes_to_few}
+use Rattle.image.proofs.Uppers.{pipes_to_next, pipes_to_few}
 use Rattle.image.proofs.writer.pipe_count.Goals as goal
 
 pub loop-v-init : goal.loop-v-init

@@ -1,6 +1,6 @@
 use Rattle.std.proofs.Common.{sym, ◌∙◌, arith}
 use Rattle.image.proofs.Stretches.{More, more}
-use Rattle.image.specs.Uppers.{uppers_none, uppers_end, uppers_most}
+use Rattle.image.proofs.Uppers.{uppers_none, uppers_end, uppers_most}
 use Rattle.image.proofs.writer.upper_count.Goals as goal
 
 pub loop-w-init : goal.loop-w-init

@@ -1,7 +1,7 @@
 use Rattle.std.proofs.Common.{◌≡◌, ◌+◌, ◌-◌, ◌<◌, ◌≤◌, ◌⊎◌, length, inl, inr, arith, length-drop, length-take, rules}
 use Rattle.image.specs.Writing.{link}
 use Rattle.image.proofs.Stretches.{More, more, chain_starts, link_of, chain_goes_on, chain_ends}
-use Rattle.image.specs.Uppers.{uppers_most}
+use Rattle.image.proofs.Uppers.{uppers_most}
 use Rattle.image.proofs.writer.write_chain.Goals as goal
 use Rattle.image.proofs.writer.write_chain.Goals.{then-end-part, else-end-part}
 

@@ -1,7 +1,7 @@
 use Rattle.std.proofs.Common.{◌≡◌, ◌+◌, ◌-◌, ◌*◌, ◌⊎◌, inl, inr, arith}
 use Rattle.image.specs.Writing.{link}
 use Rattle.image.proofs.Stretches.{heads_start, head_is, heads_go_on, heads_end}
-use Rattle.image.specs.Uppers.{pipes_to_next, pipes_to_le}
+use Rattle.image.proofs.Uppers.{pipes_to_next, pipes_to_le}
 use Rattle.image.proofs.writer.write_heads.Goals as goal
 use Rattle.image.proofs.writer.write_heads.Goals.{then-found-eq0, else-found-eq0}
 

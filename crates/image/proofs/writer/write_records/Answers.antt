@@ -1,6 +1,6 @@
 use Rattle.std.proofs.Common.{◌+◌, ◌-◌, ◌*◌, ◌≤◌, length, refl, arith, length-drop, length-take, rules}
 use Rattle.image.proofs.Stretches.{records_start, records_go_on, records_end}
-use Rattle.image.specs.Uppers.{pipes_to_next, pipes_to_le}
+use Rattle.image.proofs.Uppers.{pipes_to_next, pipes_to_le}
 use Rattle.image.proofs.writer.write_records.Goals as goal
 
 pub loop-v-init : goal.loop-v-init

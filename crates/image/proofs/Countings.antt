@@ -10,10 +10,10 @@ use Rattle.image.specs.Reading.{Walked}
 use Rattle.image.specs.Ranges.{each}
 use Rattle.image.specs.Writing.{uppers, pipes_to}
 use Rattle.image.specs.RangesLemmas.{each_all, each-counted, some_at}
-use Rattle.image.specs.Seeks.{Seeking, seek_finds, seek_ends}
+use Rattle.image.proofs.Seeks.{Seeking, seek_finds, seek_ends}
 use Rattle.image.specs.Sounds.{Chained, placed}
 use Rattle.image.specs.Tallies.{Tallied, tally_starts, tally_next}
-use Rattle.image.specs.Uppers.{uppers_none, uppers_next, uppers_end, pipes_pairs}
+use Rattle.image.proofs.Uppers.{uppers_none, uppers_next, uppers_end, pipes_pairs}
 use Rattle.image.specs.Walks.{Member, steps, steps_end, steps_step, steps_counted, sound_more, reaches_step, follows_member}
 
 module _ (m : Image) (c : Chained m) (v : ℕ) where

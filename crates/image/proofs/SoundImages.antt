@@ -7,7 +7,7 @@ use Rattle.image.specs.Chains.{in_chain}
 use Rattle.image.specs.Images.{Image, field, record_at, image_of}
 use Rattle.image.specs.Laws.{SoundLaws}
 use Rattle.image.specs.Reading.{read_verdict, has_record}
-use Rattle.image.specs.Countings.{records_pairs}
+use Rattle.image.proofs.Countings.{records_pairs}
 use Rattle.image.specs.Sounds.{Carried, carried_parts, Chained, placed, single, pipe_record, record_pipe, plan_sound, sound_chained}
 use Rattle.image.specs.Tallies.{in_chain_near}
 
