@@ -12,6 +12,8 @@ import re
 import sys
 
 TABLE = """
+a-number a_number
+a-verb a_verb
 added-alike added_alike
 added-apart added_apart
 added-both added_both
@@ -590,6 +592,7 @@ pair-cells pair_cells
 pair-is-new pair_is_new
 pair-of-cell pair_of_cell
 pair-serves pair_serves
+pair-test pair_test
 pair-within pair_within
 paired-after paired_after
 pairs-added pairs_added
@@ -698,6 +701,7 @@ remove-word remove_word
 replicate-open replicate_open
 rest-fits rest_fits
 rest-in-rest rest_in_rest
+rest-of-word rest_of_word
 rest-same rest_same
 ring-apart ring_apart
 ring-fits ring_fits

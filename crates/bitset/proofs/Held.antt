@@ -146,8 +146,8 @@ remove_nothing ws i l = record { bits = λ j. go j (cases_eq j i); others = λ k
 
 module _ (ws : List ℕ) (from : ℕ) where
   -- the word of `from`, with the bits of lower numbers shifted out
-  abbrev rest-of-word : ℕ
-  rest-of-word = get_or ws (from / 64) 0 / 2 ^ (from % 64)
+  abbrev rest_of_word : ℕ
+  rest_of_word = get_or ws (from / 64) 0 / 2 ^ (from % 64)
 
   holds_in_word : (k d i : ℕ) → d < 64 → i ≡ 64 * k + d → holds ws i ≡ bit (get_or ws k 0) d
   unfolding holds
@@ -156,41 +156,41 @@ module _ (ws : List ℕ) (from : ℕ) where
       let q : i % 64 ≡ d = omega arith in
       rw (p, q) refl
 
-  holds_from : (d : ℕ) → from % 64 + d < 64 → holds ws (from + d) ≡ bit rest-of-word d
+  holds_from : (d : ℕ) → from % 64 + d < 64 → holds ws (from + d) ≡ bit rest_of_word d
   holds_from d l =
       holds_in_word (from / 64) (from % 64 + d) (from + d) l (omega arith) ∙ sym (bit-shr (get_or ws (from / 64) 0) (from % 64) d)
 
   pub next_past : length ws ≤ from / 64 → NextHeld ws from None
   next_past l i h f = holds_past ws i (omega arith)
 
-  pub rest_fits : get_or ws (from / 64) 0 < 2 ^ 64 → (rest-of-word ≡ 0 → ⊥) → from % 64 + count_trailing_zeros 64 rest-of-word < 64
-  rest_fits f ne = go (cases_lt (from % 64 + count_trailing_zeros 64 rest-of-word) 64)
+  pub rest_fits : get_or ws (from / 64) 0 < 2 ^ 64 → (rest_of_word ≡ 0 → ⊥) → from % 64 + count_trailing_zeros 64 rest_of_word < 64
+  rest_fits f ne = go (cases_lt (from % 64 + count_trailing_zeros 64 rest_of_word) 64)
     where
-      below : rest-of-word < 2 ^ 64
+      below : rest_of_word < 2 ^ 64
       below = omega (arith, shr_le (get_or ws (from / 64) 0) (from % 64))
 
-      high : 64 ≤ from % 64 + count_trailing_zeros 64 rest-of-word → bit rest-of-word (count_trailing_zeros 64 rest-of-word) ≡ false
+      high : 64 ≤ from % 64 + count_trailing_zeros 64 rest_of_word → bit rest_of_word (count_trailing_zeros 64 rest_of_word) ≡ false
       high l =
-          bit-shr (get_or ws (from / 64) 0) (from % 64) (count_trailing_zeros 64 rest-of-word)
-          ∙ bit_high 64 (get_or ws (from / 64) 0) (from % 64 + count_trailing_zeros 64 rest-of-word) f l
+          bit-shr (get_or ws (from / 64) 0) (from % 64) (count_trailing_zeros 64 rest_of_word)
+          ∙ bit_high 64 (get_or ws (from / 64) 0) (from % 64 + count_trailing_zeros 64 rest_of_word) f l
 
-      go : (from % 64 + count_trailing_zeros 64 rest-of-word < 64) ⊎ (64 ≤ from % 64 + count_trailing_zeros 64 rest-of-word) → from % 64 + count_trailing_zeros 64 rest-of-word < 64
+      go : (from % 64 + count_trailing_zeros 64 rest_of_word < 64) ⊎ (64 ≤ from % 64 + count_trailing_zeros 64 rest_of_word) → from % 64 + count_trailing_zeros 64 rest_of_word < 64
       go (inl l) = l
       go (inr l) =
-          absurd (both_ways (bit rest-of-word (count_trailing_zeros 64 rest-of-word)) (high l)
-          (bit-at_trailing 64 rest-of-word (trailing_lt 64 rest-of-word (omega arith) below)))
+          absurd (both_ways (bit rest_of_word (count_trailing_zeros 64 rest_of_word)) (high l)
+          (bit-at_trailing 64 rest_of_word (trailing_lt 64 rest_of_word (omega arith) below)))
 
-  pub next_in_word : get_or ws (from / 64) 0 < 2 ^ 64 → (rest-of-word ≡ 0 → ⊥) → NextHeld ws from (Some (from + count_trailing_zeros 64 rest-of-word))
+  pub next_in_word : get_or ws (from / 64) 0 < 2 ^ 64 → (rest_of_word ≡ 0 → ⊥) → NextHeld ws from (Some (from + count_trailing_zeros 64 rest_of_word))
   next_in_word f ne =
-      let l : from % 64 + count_trailing_zeros 64 rest-of-word < 64 = rest_fits f ne in
-      (omega arith, holds_from (count_trailing_zeros 64 rest-of-word) l ∙ bit-at_trailing 64 rest-of-word (omega arith), λ j h k. before j h k l)
+      let l : from % 64 + count_trailing_zeros 64 rest_of_word < 64 = rest_fits f ne in
+      (omega arith, holds_from (count_trailing_zeros 64 rest_of_word) l ∙ bit-at_trailing 64 rest_of_word (omega arith), λ j h k. before j h k l)
     where
-      before : (j : ℕ) → from ≤ j → j < from + count_trailing_zeros 64 rest-of-word → from % 64 + count_trailing_zeros 64 rest-of-word < 64 → holds ws j ≡ false
+      before : (j : ℕ) → from ≤ j → j < from + count_trailing_zeros 64 rest_of_word → from % 64 + count_trailing_zeros 64 rest_of_word < 64 → holds ws j ≡ false
       before j h k l =
           let e : j ≡ from + (j - from) = omega arith in
-          ap (holds ws) e ∙ (holds_from (j - from) (omega arith) ∙ bit_below_trailing 64 rest-of-word (j - from) (omega arith))
+          ap (holds ws) e ∙ (holds_from (j - from) (omega arith) ∙ bit_below_trailing 64 rest_of_word (j - from) (omega arith))
 
-  pub none_in_word : rest-of-word ≡ 0 → (i : ℕ) → from ≤ i → i < 64 * (from / 64 + 1) → holds ws i ≡ false
+  pub none_in_word : rest_of_word ≡ 0 → (i : ℕ) → from ≤ i → i < 64 * (from / 64 + 1) → holds ws i ≡ false
   none_in_word z i h l =
       let e : i ≡ from + (i - from) = omega arith in
       ap (holds ws) e ∙ (holds_from (i - from) (omega arith) ∙ (ap (λ x. bit x (i - from)) z ∙ bit_of_zero (i - from)))

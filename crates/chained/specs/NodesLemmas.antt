@@ -51,13 +51,13 @@ pub record CellOf (n c : ℕ) (ws : List ℕ) (a b : ℕ) : Type 0 where
   pub right : within n b ≡ true
 
 module _ (n c : ℕ) (ws : List ℕ) (a b : ℕ) where
-  abbrev pair-test : ℕ → Bool
-  pair-test p = same_pair a b (slice_index ws ((n + p) + 2 * c)) (slice_index ws ((n + p) + 3 * c))
+  abbrev pair_test : ℕ → Bool
+  pair_test p = same_pair a b (slice_index ws ((n + p) + 2 * c)) (slice_index ws ((n + p) + 3 * c))
 
-  tested : Decides (any pair-test c) ((p : ℕ) × (p < c) × (pair-test p ≡ true))
-  tested = Decides-below_or pair-test (λ p. pair-test p ≡ true) (any pair-test) (λ p. (λ e. e, λ e. e)) refl (λ m. refl) c
+  tested : Decides (any pair_test c) ((p : ℕ) × (p < c) × (pair_test p ≡ true))
+  tested = Decides-below_or pair_test (λ p. pair_test p ≡ true) (any pair_test) (λ p. (λ e. e, λ e. e)) refl (λ m. refl) c
 
-  cell_of_pair : (p : ℕ) → p < c → pair-test p ≡ true → within n a ≡ true → within n b ≡ true → CellOf n c ws a b
+  cell_of_pair : (p : ℕ) → p < c → pair_test p ≡ true → within n a ≡ true → within n b ≡ true → CellOf n c ws a b
   cell_of_pair p l e x y =
       go (or_cases (slice_index ws ((n + p) + 2 * c) == a && slice_index ws ((n + p) + 3 * c) == b) (slice_index ws ((n + p) + 2 * c) == b && slice_index ws ((n + p) + 3 * c) == a) e)
     where
@@ -87,12 +87,12 @@ module _ (n c : ℕ) (ws : List ℕ) (a b : ℕ) where
 
   pub cell_of_joined : joined n c ws a b ≡ true → CellOf n c ws a b
   cell_of_joined e =
-      let p : ((within n a && within n b) ≡ true) × (any pair-test c ≡ true) = and_parts (within n a && within n b) (any pair-test c) e in
+      let p : ((within n a && within n b) ≡ true) × (any pair_test c ≡ true) = and_parts (within n a && within n b) (any pair_test c) e in
       let q : (within n a ≡ true) × (within n b ≡ true) = and_parts (within n a) (within n b) p.0 in
-      let t : (p : ℕ) × (p < c) × (pair-test p ≡ true) = tested.0 p.1 in
+      let t : (p : ℕ) × (p < c) × (pair_test p ≡ true) = tested.0 p.1 in
       cell_of_pair t.0 t.1 t.2 q.0 q.1
 
-  pair_of_cell : (k : ℕ) → n ≤ k → k < n + 2 * c → owner n c ws k ≡ a → far n c ws k ≡ b → (k < n + c) ⊎ (n + c ≤ k) → (p : ℕ) × (p < c) × (pair-test p ≡ true)
+  pair_of_cell : (k : ℕ) → n ≤ k → k < n + 2 * c → owner n c ws k ≡ a → far n c ws k ≡ b → (k < n + c) ⊎ (n + c ≤ k) → (p : ℕ) × (p < c) × (pair_test p ≡ true)
   pair_of_cell k low high o f (inl l) =
       let one : slice_index_or ws ((n + (k - n)) + 2 * c) 0 ≡ b = ap (λ i. slice_index ws i) (omega arith) ∙ (sym (far_cell n c ws k low) ∙ f) in
       let two : slice_index_or ws ((n + (k - n)) + 3 * c) 0 ≡ a = ap (λ i. slice_index ws i) (omega arith) ∙ (sym (owner_first n c ws k low l) ∙ o) in
@@ -104,7 +104,7 @@ module _ (n c : ℕ) (ws : List ℕ) (a b : ℕ) where
 
   pub joined_of_cell : CellOf n c ws a b → joined n c ws a b ≡ true
   joined_of_cell x =
-      and_from (within n a && within n b) (any pair-test c) (and_from (within n a) (within n b) x.left x.right) (tested.1 (pair_of_cell x.node x.low x.high x.owned x.ends (cases_lt x.node (n + c))))
+      and_from (within n a && within n b) (any pair_test c) (and_from (within n a) (within n b) x.left x.right) (tested.1 (pair_of_cell x.node x.low x.high x.owned x.ends (cases_lt x.node (n + c))))
 
   pub joined_decides : Decides (joined n c ws a b) (CellOf n c ws a b)
   joined_decides = (cell_of_joined, joined_of_cell)

@@ -3,7 +3,7 @@ use Rattle.std.proofs.Common.{◌≡◌, ℕ, Bool, true, false, cond, ◌&&◌,
 use Rattle.std.proofs.lemmas.Bool.{eq-eqb, eqb-true, and_parts, and_from}
 use Rattle.sheet.specs.Arguments.{numbered, number_of, behind}
 use Rattle.sheet.specs.Calls.{Numeral, One, Two, Spells}
-use Rattle.sheet.specs.Fields.{numeral, verb, value_after, sort, a-verb, a-number, a_word}
+use Rattle.sheet.specs.Fields.{numeral, verb, value_after, sort, a_verb, a_number, a_word}
 use Rattle.sheet.specs.Lines.{front, back}
 use Rattle.sheet.specs.declared.call.Call.{Call}
 use Rattle.sheet.specs.declared.call.Call.TheVariants.{New, Join, Cut, Shut, Open, OrderLexicographic, OrderCounting}
@@ -152,11 +152,11 @@ module _ (b : ℕ) (rest : List ℕ) where
       go OrderCounting r = h (inr r.0) r.1
 
 -- a verb is one letter
-pub verb_alone : (xs : List ℕ) → a-verb ≡ sort xs → xs ≡ get_or xs 0 0 ∷ []
+pub verb_alone : (xs : List ℕ) → a_verb ≡ sort xs → xs ≡ get_or xs 0 0 ∷ []
 verb_alone [] h = let z : ◌≡◌ {A = ℕ} 0 1 = cc in absurd (omega arith)
 verb_alone (x ∷ []) h = refl
 verb_alone (x ∷ y ∷ xs) h = absurd (go (numeral (x ∷ y ∷ xs)) h)
   where
-    go : (t : Bool) → a-verb ≡ cond t a-number a_word → ⊥
+    go : (t : Bool) → a_verb ≡ cond t a_number a_word → ⊥
     go true e = let z : ◌≡◌ {A = ℕ} 0 1 = cc in omega arith
     go false e = let z : ◌≡◌ {A = ℕ} 0 1 = cc in omega arith

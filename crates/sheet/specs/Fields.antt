@@ -34,14 +34,14 @@ numeral bs = (nat_le 1 (length bs) && nat_le (length bs) 5) && plain bs && digit
 
 -- the three sorts of field
 pub data Sort : Type 0 where
-  a-verb a-number a_word : Sort
+  a_verb a_number a_word : Sort
 
 abbrev pub sort : List ℕ → Sort
-sort bs = cond (verb bs) a-verb (cond (numeral bs) a-number a_word)
+sort bs = cond (verb bs) a_verb (cond (numeral bs) a_number a_word)
 
 abbrev pub sort_of : Field → Sort
-sort_of (Verb text at) = a-verb
-sort_of (Number text at) = a-number
+sort_of (Verb text at) = a_verb
+sort_of (Number text at) = a_number
 sort_of (Word text at) = a_word
 
 abbrev pub text_of : Field → List ℕ

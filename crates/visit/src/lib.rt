@@ -6,6 +6,8 @@
 mod listener;
 mod maker;
 mod run;
+#[cfg(test)]
+mod tests;
 
 pub use calls::Answer;
 pub use ledger_visit::{KindOfLabel, LabelOfVisit, Listing, SHEET_LIMIT};
