@@ -2,14 +2,14 @@
 ghost use Rattle.std.specs.Prelude.{◌≡◌};
 ghost use Rattle.image_order.specs.Firsts.{or_told, first_told};
 
-use calls::{Answer, Listener};
+use calls::{Answer, Listener, Outcome};
 use plan::Junction;
 use std::convert::Infallible;
 
 /// Keeps the first answer that says more than that a call was carried out.
 #[derive(Drop)]
 pub(crate) struct First {
-    /// That answer, or `Done` while there is none.
+    /// That answer, or `Outcome::Done` while there is none.
     pub(crate) answer: Answer,
 }
 
@@ -35,7 +35,7 @@ fn or(first: Answer, second: Answer) -> Answer
     ensures { result ≡ or_told first second }
 {
     match first {
-        Answer::Done => second,
+        Ok(Outcome::Done) => second,
         _ => first,
     }
 }

@@ -9,9 +9,9 @@ use edge::{filled, read_input};
 use image::IMAGE_LIMIT;
 use image_order::{PIPES, order_image};
 use label::{Kind, Lexicographic};
-use ledger_visit::Listing;
 use plan::Junction;
 use std::io;
+use visit::Listing;
 
 // Prints the order of the image that standard input, or the file named, has.
 fn main(rt: HostRuntime) -> io::Result<()> {

@@ -1,11 +1,11 @@
 use edge::filled;
 use image_order::{PIPES, order_image};
 use label::{Kind, Lexicographic};
-use ledger_visit::Listing;
 use plan::Junction;
 use std::alloc::Global;
 use std::process::Abort;
 use std::test::Fail;
+use visit::Listing;
 
 /// The ring of four junctions.
 const RING: &[u8; 40] =

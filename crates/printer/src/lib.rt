@@ -8,9 +8,9 @@ ghost use Rattle.calls.specs.Heard.{Heard};
 use calls::{Answer, Listener};
 use edge::{filled, read_input};
 use label::{Count, Either};
-use ledger_visit::{Listing, Maker, SHEET_LIMIT, visit};
 use plan::Junction;
 use std::io;
+use visit::{Listing, Maker, SHEET_LIMIT, visit};
 
 /// Prints each answer, as the lines of a listing. It keeps nothing of what it was told, so that it
 /// may have been told anything.
