@@ -2,9 +2,10 @@ use bits::BitRegister;
 use calls::{Answer, Listener};
 use edge::filled;
 use label::{Count, Either};
-use plan::{Junction, Refusal};
+use plan::{Junction, Refusal, TurnedDown};
 use std::alloc::{AllocError, Global};
 use std::test::Fail;
+use visit::{Listing, Maker, visit};
 
 // Makes bit registers, each in memory of its own, and promises nothing of them.
 #[derive(Drop)]
