@@ -12,7 +12,7 @@ use calls::{Call, Listener, Outcome, run};
 use label::{Count, Counting, Either, Lexicographic, MarkSet};
 use plan::{Junction, Refusal, Register, TurnedDown};
 use set::Set;
-use sheet::{Call as Spelled, next_line, read_call};
+use sheet::{Call as Spelled, Lines, read_call};
 
 /// The most bytes that a sheet may have.
 pub const SHEET_LIMIT: usize = 16384;
@@ -41,36 +41,34 @@ pub fn visit<M: Maker + Drop, L: Listener>(
     if sheet.len() > SHEET_LIMIT {
         return listener.hear(Err(Refusal::ShortMemory), places, ring, rows);
     }
-    match open_set(sheet, maker, listener, places, ring, rows)? {
-        Some((mut set, rest)) => run_lines(
-            &mut set, rest, listener, places, ring, rows, labels, scratch,
+    match open_set(Lines::new(sheet), maker, listener, places, ring, rows)? {
+        Some((mut set, lines)) => run_lines(
+            &mut set, lines, listener, places, ring, rows, labels, scratch,
         ),
         None => Ok(()),
     }
 }
 
-// Reads lines until one makes a set; every other is no call. Answers the set with what is left of
-// the sheet behind its line, or `None` at the sheet's end. What is heard of the lines does not hang
+// Reads lines until one makes a set; every other is no call. Answers the set with the lines behind
+// its line, or `None` at the sheet's end. What is heard of the lines does not hang
 // on the memory for orders, whatever `tight` says of it.
 fn open_set<'a, M: Maker + Drop, L: Listener>(
-    sheet: &'a [u8],
+    lines: Lines<'a>,
     maker: M,
     listener: &mut L,
     places: &[Junction],
     ring: &[Junction],
     rows: &[u64],
-) -> Result<Option<(Set<M::Made>, &'a [u8])>, L::Error>
-    ensures { (tight : ℕ → Bool) (spare : M → ℕ → ℕ) (full : M → ℕ → Bool) → Makes M.Maker.makes M.Made.ReadablePlan.meaning M.Made.Register.left spare full → Opening tight (spare maker) (full maker) M.Made.ReadablePlan.meaning M.Made.Register.left (lists_of places.now ring.now rows.now) sheet.now (L.Listener.log listener.old) (L.Listener.log listener.new) result }
+) -> Result<Option<(Set<M::Made>, Lines<'a>)>, L::Error>
+    ensures { (tight : ℕ → Bool) (spare : M → ℕ → ℕ) (full : M → ℕ → Bool) → Makes M.Maker.makes M.Made.ReadablePlan.meaning M.Made.Register.left spare full → Opening tight (spare maker) (full maker) M.Made.ReadablePlan.meaning M.Made.Register.left (lists_of places.now ring.now rows.now) lines.entry.rest.now (L.Listener.log listener.old) (L.Listener.log listener.new) result }
 {
     let mut maker = maker;
-    let mut rest = sheet;
-    while !rest.is_empty() {
-        let (line, next) = next_line(rest);
-        rest = next;
+    let mut lines = lines;
+    while let Some(line) = lines.next() {
         match new_set(line, maker) {
             Ok(set) => {
                 listener.hear(Ok(Outcome::Done), places, ring, rows)?;
-                return Ok(Some((set, rest)));
+                return Ok(Some((set, lines)));
             }
             Err(turned) => {
                 maker = turned.memory;
@@ -94,10 +92,10 @@ fn new_set<M: Maker>(line: &[u8], maker: M) -> Result<Set<M::Made>, TurnedDown<M
     Ok(Set::new(maker.make(n)?))
 }
 
-// Makes the calls of the lines of a text on a set.
+// Makes the calls of lines on a set.
 fn run_lines<R: Register, L: Listener>(
     set: &mut Set<R>,
-    text: &[u8],
+    lines: Lines<'_>,
     listener: &mut L,
     places: &mut [Junction],
     ring: &mut [Junction],
@@ -105,15 +103,12 @@ fn run_lines<R: Register, L: Listener>(
     labels: &mut [LabelOfVisit],
     scratch: &mut [u16],
 ) -> Result<(), L::Error>
-    ensures heard { (spare : ℕ → ℕ) (full : ℕ → Bool) → LinesHeard (λ n. short n places.old ring.old rows.old labels.old scratch.old) spare full (with_set (ledger R.ReadablePlan.meaning R.Register.left set.old)) (lists_of places.old ring.old rows.old) text.now (lists_of places.new ring.new rows.new) (L.Listener.log listener.old) (L.Listener.log listener.new) (with_set (ledger R.ReadablePlan.meaning R.Register.left set.new)) result }
+    ensures heard { (spare : ℕ → ℕ) (full : ℕ → Bool) → LinesHeard (λ n. short n places.old ring.old rows.old labels.old scratch.old) spare full (with_set (ledger R.ReadablePlan.meaning R.Register.left set.old)) (lists_of places.old ring.old rows.old) lines.entry.rest.now (lists_of places.new ring.new rows.new) (L.Listener.log listener.old) (L.Listener.log listener.new) (with_set (ledger R.ReadablePlan.meaning R.Register.left set.new)) result }
     ensures size { (ledger R.ReadablePlan.meaning R.Register.left set.new).base.size ≡ (ledger R.ReadablePlan.meaning R.Register.left set.old).base.size }
     ensures labels { KeptFrom (ledger R.ReadablePlan.meaning R.Register.left set.old).base.size labels.old labels.new }
     ensures scratch { KeptFrom (2 * (ledger R.ReadablePlan.meaning R.Register.left set.old).base.size) scratch.old scratch.new }
 {
-    let mut rest = text;
-    while !rest.is_empty() {
-        let (line, next) = next_line(rest);
-        rest = next;
+    for line in lines {
         run_line(set, line, listener, places, ring, rows, labels, scratch)?;
     }
     Ok(())
