@@ -3,12 +3,13 @@ ghost use Rattle.std.specs.Prelude.{◌≡◌, ℕ, ◌*◌, Bool};
 ghost use Rattle.plan.specs.Memory.{KeptFrom};
 ghost use Rattle.order.specs.Reports.{short};
 ghost use Rattle.set.specs.Kept.{ledger};
-ghost use Rattle.calls.specs.Heard.{Lists, lists_of};
+ghost use Rattle.calls.specs.Heard as told;
+ghost use Rattle.calls.specs.Heard.{lists_of};
 ghost use Rattle.visit.specs.Openings.{NewSize, SetCall, SetMade, LineRun, LinesHeard, Opening};
 ghost use Rattle.visit.specs.Visits.{with_set, Visit, Makes};
 
 use crate::maker::Maker;
-use calls::{Call, Listener, Outcome, run};
+use calls::{Call, Listener, Lists, Outcome, run};
 use label::{Count, Counting, Either, Lexicographic, MarkSet};
 use plan::{Junction, Refusal, Register, TurnedDown};
 use set::Set;
@@ -39,9 +40,14 @@ pub fn visit<M: Maker + Drop, L: Listener>(
     ensures { (spare : M → ℕ → ℕ) (full : M → ℕ → Bool) → Makes M.Maker.makes M.Made.ReadablePlan.meaning M.Made.Register.left spare full → Visit (λ n. short n places.old ring.old rows.old labels.old scratch.old) (spare maker) (full maker) (lists_of places.old ring.old rows.old) sheet.now (lists_of places.new ring.new rows.new) (L.Listener.log listener.old) (L.Listener.log listener.new) labels.old labels.new scratch.old scratch.new result }
 {
     if sheet.len() > SHEET_LIMIT {
-        return listener.hear(Err(Refusal::ShortMemory), places, ring, rows);
+        return listener.hear(Err(Refusal::ShortMemory), Lists { places, ring, rows });
     }
-    match open_set(Lines::new(sheet), maker, listener, places, ring, rows)? {
+    match open_set(
+        Lines::new(sheet),
+        maker,
+        listener,
+        Lists { places, ring, rows },
+    )? {
         Some((mut set, lines)) => run_lines(
             &mut set, lines, listener, places, ring, rows, labels, scratch,
         ),
@@ -56,23 +62,21 @@ fn open_set<'a, M: Maker + Drop, L: Listener>(
     lines: Lines<'a>,
     maker: M,
     listener: &mut L,
-    places: &[Junction],
-    ring: &[Junction],
-    rows: &[u64],
+    lists: Lists<'_>,
 ) -> Result<Option<(Set<M::Made>, Lines<'a>)>, L::Error>
-    ensures { (tight : ℕ → Bool) (spare : M → ℕ → ℕ) (full : M → ℕ → Bool) → Makes M.Maker.makes M.Made.ReadablePlan.meaning M.Made.Register.left spare full → Opening tight (spare maker) (full maker) M.Made.ReadablePlan.meaning M.Made.Register.left (lists_of places.now ring.now rows.now) lines.entry.rest.now (L.Listener.log listener.old) (L.Listener.log listener.new) result }
+    ensures { (tight : ℕ → Bool) (spare : M → ℕ → ℕ) (full : M → ℕ → Bool) → Makes M.Maker.makes M.Made.ReadablePlan.meaning M.Made.Register.left spare full → Opening tight (spare maker) (full maker) M.Made.ReadablePlan.meaning M.Made.Register.left (lists_of lists.entry.places.now lists.entry.ring.now lists.entry.rows.now) lines.entry.rest.now (L.Listener.log listener.old) (L.Listener.log listener.new) result }
 {
     let mut maker = maker;
     let mut lines = lines;
     while let Some(line) = lines.next() {
         match new_set(line, maker) {
             Ok(set) => {
-                listener.hear(Ok(Outcome::Done), places, ring, rows)?;
+                listener.hear(Ok(Outcome::Done), lists)?;
                 return Ok(Some((set, lines)));
             }
             Err(turned) => {
                 maker = turned.memory;
-                listener.hear(Err(turned.refusal), places, ring, rows)?;
+                listener.hear(Err(turned.refusal), lists)?;
             }
         }
     }
@@ -81,7 +85,7 @@ fn open_set<'a, M: Maker + Drop, L: Listener>(
 
 // Makes the set that a line asks for; a line that asks for none is turned down by 7.
 fn new_set<M: Maker>(line: &[u8], maker: M) -> Result<Set<M::Made>, TurnedDown<M>>
-    ensures { (tight : ℕ → Bool) (before : Lists) (spare : M → ℕ → ℕ) (full : M → ℕ → Bool) → Makes M.Maker.makes M.Made.ReadablePlan.meaning M.Made.Register.left spare full → SetMade tight (spare maker) (full maker) M.Made.ReadablePlan.meaning M.Made.Register.left before line.now maker result }
+    ensures { (tight : ℕ → Bool) (before : told.Lists) (spare : M → ℕ → ℕ) (full : M → ℕ → Bool) → Makes M.Maker.makes M.Made.ReadablePlan.meaning M.Made.Register.left spare full → SetMade tight (spare maker) (full maker) M.Made.ReadablePlan.meaning M.Made.Register.left before line.now maker result }
 {
     let Some(n) = new_size(line) else {
         return Err(TurnedDown {
@@ -132,7 +136,7 @@ fn run_line<R: Register, L: Listener>(
 {
     match set_call(line) {
         Some(call) => run(set, &[call], listener, places, ring, rows, labels, scratch),
-        None => listener.hear(Err(Refusal::NoCall), places, ring, rows),
+        None => listener.hear(Err(Refusal::NoCall), Lists { places, ring, rows }),
     }
 }
 

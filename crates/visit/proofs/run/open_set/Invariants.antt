@@ -8,7 +8,7 @@ use Rattle.visit.proofs.run.open_set.Given as goal
 abbrev pub invariant-loop-line : goal.invariant-loop-line
 invariant-loop-line g l =
     (tight : ℕ → Bool) (spare : g.row.M.Denot → ℕ → ℕ) (full : g.row.M.Denot → ℕ → Bool) → Makes g.M.Maker.makes g.M.Made.ReadablePlan.meaning g.M.Made.Register.left spare full
-    → Gone tight (spare l.initial.maker) (full l.initial.maker) no_set (lists_of l.places l.ring l.rows) l.initial.lines.rest.now l.lines.rest.now no_set (lists_of l.places l.ring l.rows) (g.L.Listener.log l.initial.listener) (g.L.Listener.log l.listener)
+    → Gone tight (spare l.initial.maker) (full l.initial.maker) no_set (lists_of l.lists.places.now l.lists.ring.now l.lists.rows.now) l.initial.lines.rest.now l.lines.rest.now no_set (lists_of l.lists.places.now l.lists.ring.now l.lists.rows.now) (g.L.Listener.log l.initial.listener) (g.L.Listener.log l.listener)
     × (l.maker ≡ l.initial.maker)
 
 abbrev pub decreases-loop-line : goal.decreases-loop-line
