@@ -30,6 +30,7 @@ pub(crate) fn put_all(part: &mut [u8], fields: &[u16])
     requires { length part.old ≡ 2 * length fields.now }
     ensures { part.new ≡ bytes_of fields.now }
 {
+    // By index: of chunks that were lent a proof knows the length alone afterwards.
     for (i, x) in fields.iter().enumerate() {
         put(&mut part[2 * i..2 * i + 2], *x);
     }

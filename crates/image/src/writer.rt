@@ -34,6 +34,7 @@ fn write_heads<P: ReadablePlan>(plan: &P, part: &mut [u8])
     for v in 1..plan.size() + 1 {
         let v = Junction(v);
         let found = upper_count(plan, v);
+        // A junction without records has the head 0.
         let head = if found == 0 { 0 } else { before as u16 + 1 };
         let at = 2 * v.index();
         put(&mut part[at..at + 2], head);
@@ -52,6 +53,7 @@ fn write_chain<P: ReadablePlan>(plan: &P, v: Junction, before: usize, part: &mut
     for (k, w) in neighbours_above(plan, v, v).enumerate() {
         let at = 6 * k;
         let end = at + 6;
+        // The last record of a chain has the link 0.
         let next = if end < part.len() {
             (before + k) as u16 + 2
         } else {
