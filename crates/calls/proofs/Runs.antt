@@ -13,11 +13,6 @@ use Rattle.calls.specs.Deeds.{Deed, loads, joins, cuts, shuts, opens, orders, ve
 use Rattle.calls.specs.Heard.{Heard, Lists, Told}
 use Rattle.calls.specs.Runs.{Run, Ran, Answered, last_lists}
 
--- what stays whether a call is carried out or turned down
-pub after_same : {A : Type 0} (v : Verdict) (a : A) → after v a a ≡ a
-after_same carried a = refl
-after_same (refused k vs) a = refl
-
 -- the first entries of a mapped list, with the next one
 take-map-suc : {A B : Type 0} (f : A → B) (xs : List A) (i : ℕ) (x : A) → x ≡ get_or xs i x → i < length xs → take (suc i) (map f xs) ≡ take i (map f xs) ++ f x ∷ []
 take-map-suc f [] i x e h = absurd (omega arith)

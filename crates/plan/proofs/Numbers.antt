@@ -1,15 +1,12 @@
 -- A list of junctions and the list of its numbers.
-use Rattle.std.proofs.Common.{◌≡◌, ℕ, ◌<◌, ◌≤◌, ◌⊎◌, List, length, get_or, set, sym, ap, ◌∙◌, inl, inr}
-use Rattle.std.proofs.lemmas.List.{length-map, map-set, get_or-map, get_or_past}
+use Rattle.std.proofs.Common.{◌≡◌, ℕ, ◌<◌, ◌≤◌, ◌⊎◌, List, length, get_or, sym, ap, ◌∙◌, inl, inr}
+use Rattle.std.proofs.lemmas.List.{length-map, get_or-map, get_or_past}
 use Rattle.std.proofs.lemmas.Bool.{cases_lt}
 use Rattle.plan.specs.declared.number.Junction.{Junction}
 use Rattle.plan.specs.Orders.{numbers}
 
 pub length-numbers : (js : List Junction) → length (numbers js) ≡ length js
 length-numbers js = length-map js (λ j. j.0)
-
-pub numbers-set : (js : List Junction) (i : ℕ) (v : Junction) → numbers (set js i v) ≡ set (numbers js) i v.0
-numbers-set js i v = map-set (λ j. j.0) js i v
 
 pub getD_numbers : (js : List Junction) (i : ℕ) → get_or (numbers js) i 0 ≡ (get_or js i (record { 0 = 0 })).0
 getD_numbers js i = go (cases_lt i (length js))

@@ -187,9 +187,6 @@ ordered_from_all n us long once all =
         let r : (i : ℕ) × (i < n) × (get_or us i 0 ≡ v) = all v a b in
         one_index_times us r.0 v (omega (arith, r.1, long)) r.2 (λ j l e. same r.0 j r.1 (omega (arith, l, long)) (r.2 ∙ sym e))
 
-pub ordered_of : (n : ℕ) (us : List ℕ) → IsOrder n us → ordered n us ≡ true
-ordered_of n us o = ordered_from_all n us o.long o.once o.all
-
 -- what no two indices share stands in the list once at most
 once_times : (us : List ℕ) → ((i j : ℕ) → i < j → j < length us → get_or us i 0 ≡ get_or us j 0 → ⊥) → (v : ℕ) → times v us ≤ 1
 once_times us once v = go (cases_lt 0 (times v us))

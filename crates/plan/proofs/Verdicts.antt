@@ -41,11 +41,6 @@ module _ (p : Plan) (v w : ℕ) where
       let t = all_passed ((outside p v w, 2) ∷ (eqb v w, 3) ∷ (unserved p v w, 11) ∷ (p.joins v w, 12) ∷ (eqb s 0, 14) ∷ []) h in
       (usable t.0 t.1.0 t.1.1.0, t.1.1.1.0, t.1.1.1.1.0)
 
-  pub cut_passed : cut_verdict p v w ≡ carried → Usable p v w × (p.joins v w ≡ true)
-  cut_passed h =
-      let t = all_passed ((outside p v w, 2) ∷ (eqb v w, 3) ∷ (unserved p v w, 11) ∷ (not (p.joins v w), 13) ∷ []) h in
-      (usable t.0 t.1.0 t.1.1.0, not-false _ t.1.1.1.0)
-
   -- a call turned down leaves plan and spare as they were
   pub join_refused : (s k : ℕ) (vs : List ℕ) → join_verdict p s v w ≡ refused k vs → Joins p s v w (refused k vs) p s
   join_refused s k vs e = record {
@@ -86,6 +81,3 @@ ends_stop false false more k vs h = absurd (carried≢refused k vs h)
 
 pub join_stopped : (p : Plan) (s v w k : ℕ) (vs : List ℕ) → refused k vs ≡ ends_verdict p.size v w → Joins p s v w (refused k vs) p s
 join_stopped p s v w k vs h = join_refused p v w s k vs (ends_stop _ _ ((unserved p v w, 11) ∷ (p.joins v w, 12) ∷ (eqb s 0, 14) ∷ []) k vs h)
-
-pub cut_stopped : (p : Plan) (s v w k : ℕ) (vs : List ℕ) → refused k vs ≡ ends_verdict p.size v w → Cuts p s v w (refused k vs) p s
-cut_stopped p s v w k vs h = cut_refused p v w s k vs (ends_stop _ _ ((unserved p v w, 11) ∷ (not (p.joins v w), 13) ∷ []) k vs h)

@@ -1,5 +1,5 @@
 -- A walk along the neighbours of a junction, as a loop has it.
-use Rattle.std.proofs.Common.{◌≡◌, Some, None, Option, ◌∙◌, ap, subst}
+use Rattle.std.proofs.Common.{◌≡◌, Option, ◌∙◌, subst}
 use Rattle.plan.specs.Plans.{Plan, NextNeighbour}
 use Rattle.plan.specs.Walks.{Steps}
 use Rattle.plan.specs.declared.number.Junction.{Junction}

@@ -8,7 +8,6 @@ use Rattle.plan.proofs.Numbers.{length-numbers, getD_numbers}
 use Rattle.plan.proofs.Orders.{ordered_from_each}
 use Rattle.search.specs.Rule.{label, outranks, Searched}
 use Rattle.search.specs.Working.{at}
-use Rattle.search.proofs.Marking.{label_none}
 
 -- the junctions of places 1 to n
 abbrev pub listed : ℕ → List Junction → List ℕ
@@ -32,18 +31,6 @@ length-listed n places h =
 
 -- ---- the start
 module _ {L : Type 0} (blank : L) (raised : L → ℕ → L) (compared : L → L → Ordering) (p : Plan) (places : List Junction) (labels : List L) (scratch : List ℕ) where
-  pub going_start : (n : ℕ) → n ≡ p.size → n ≤ length places → ((i : ℕ) → i < n → at places i ≡ i + 1) → ((i : ℕ) → i < n → get_or scratch i 0 ≡ i + 1) → ((i : ℕ) (d : L) → i < n → get_or labels i d ≡ blank) → Going blank raised compared p places labels scratch n
-  going_start n e room numbered placed blanks = record {
-    few = omega arith;
-    room = omega arith;
-    each = λ i h. let f : at places i ≡ i + 1 = numbered i (omega arith) in (omega arith, omega arith);
-    back = λ i h. let l : i < n = omega arith in ap (λ k. get_or scratch k 0) (index i l) ∙ placed i l;
-    labelled = λ i d h. ap (λ k. get_or labels k d) (index i h) ∙ (blanks i d h ∙ sym (label_none blank raised p.joins (listed p.size places) n (at places i) (omega (arith, length-listed p.size places (omega arith)))));
-    greatest = λ k i a b c. absurd (omega arith);
-  }
-    where
-      index : (i : ℕ) → i < n → at places i - 1 ≡ i
-      index i h = let f : at places i ≡ i + 1 = numbered i h in omega arith
 
   -- ---- the end
   pub going_end : Going blank raised compared p places labels scratch 0 → Searched blank raised compared p (listed p.size places)

@@ -1,6 +1,6 @@
 -- Plans without a pipe, in which every junction is in service.
-use Rattle.std.proofs.Common.{◌≡◌, ℕ, ◌+◌, ◌<◌, ◌≤◌, true, false, not, ◌⊎◌, is_some, Some, None, Option, refl, ap, ◌∙◌, inl, inr, arith}
-use Rattle.std.proofs.lemmas.Bool.{cases_Bool, cases_eq, both_ways, and_parts, and_from, and_left, and_right, not_from_true, not_from_false}
+use Rattle.std.proofs.Common.{◌≡◌, ℕ, ◌<◌, ◌≤◌, true, false, not, ◌⊎◌, is_some, Some, None, Option, refl, inl, inr, arith}
+use Rattle.std.proofs.lemmas.Bool.{cases_Bool, both_ways, and_parts, and_from, and_left, and_right, not_from_true, not_from_false}
 use Rattle.plan.specs.declared.number.Junction.{Junction}
 use Rattle.plan.specs.Plans.{Plan, Sound, NextNeighbour}
 use Rattle.image.specs.Ranges.{each, some}
@@ -10,13 +10,6 @@ use Rattle.set.specs.Ledgers.{clear}
 -- the junctions below v are in service and have no neighbour
 abbrev pub ClearBelow : Plan → ℕ → Type 0
 ClearBelow p v = (u : ℕ) → 1 ≤ u → u < v → (p.serves u ≡ true) × ((w : ℕ) → 1 ≤ w → p.joins u w ≡ false)
-
-pub clear_goes_on : (p : Plan) (v : ℕ) → ClearBelow p v → p.serves v ≡ true → ((w : ℕ) → 0 < w → p.joins v w ≡ false) → ClearBelow p (v + 1)
-clear_goes_on p v below s none u a b = go (cases_eq u v)
-  where
-    go : (u ≡ v) ⊎ (u ≡ v → ⊥) → (p.serves u ≡ true) × ((w : ℕ) → 1 ≤ w → p.joins u w ≡ false)
-    go (inl e) = (ap p.serves e ∙ s, λ w k. ap (λ x. p.joins x w) e ∙ none w (omega arith))
-    go (inr ne) = below u a (omega arith)
 
 pub clear_all : (p : Plan) (v : ℕ) → p.size < v → ClearBelow p v → clear p ≡ true
 clear_all p v l below =

@@ -1,6 +1,5 @@
 -- The first line of a sheet.
-use Rattle.std.proofs.Common.{◌≡◌, ℕ, Bool, true, false, cond, eqb, List, [], ◌∷◌, drop, length, sym, refl, ap, ◌∙◌, arith, true≢false}
-use Rattle.std.proofs.lemmas.Bool.{ne_eqb}
+use Rattle.std.proofs.Common.{◌≡◌, ℕ, Bool, true, false, cond, eqb, List, [], ◌∷◌, drop, length, sym, refl, ap, true≢false}
 use Rattle.sheet.specs.Lines.{front, back, lines, before_first}
 
 -- the first line of a sheet, and those behind
@@ -19,7 +18,3 @@ lines_first b (c ∷ cs) = by (eqb b 10) (lines_first c cs)
 pub first_line : (rest : List ℕ) → false ≡ eqb (length rest) 0 → lines rest ≡ front 10 rest ∷ lines (drop 1 (back 10 rest))
 first_line [] e = absurd (true≢false (sym e))
 first_line (b ∷ bs) e = lines_first b bs
-
-pub no_line : (rest : List ℕ) → true ≡ eqb (length rest) 0 → lines rest ≡ []
-no_line [] e = refl
-no_line (b ∷ bs) e = absurd (true≢false (e ∙ ne_eqb (length (b ∷ bs)) 0 (λ z. omega arith)))
