@@ -7,7 +7,7 @@ ghost use Rattle.std.specs.Prelude.{◌≡◌, ℕ, ◌+◌, ◌*◌, ◌<◌, �
 ghost use Rattle.plan.specs.Memory.{KeptFrom};
 ghost use Rattle.ring.specs.Reach.{queue, mark, Queue, Spread, Meets};
 
-use plan::{Junction, ReadablePlan};
+use plan::{Junction, ReadablePlan, neighbours_above};
 
 // Reaches from a, a neighbour of v above it, all that can be reached through junctions above v
 // that are not joined to v. Answers how many junctions the queue holds, a first.
@@ -43,11 +43,9 @@ fn start(n: usize, a: Junction, scratch: &mut [u16])
     ensures others { (w : ℕ) → 1 ≤ w → w ≤ n → (w ≢ a.0) → mark n scratch.new w ≡ 0 }
     ensures behind { KeptFrom (2 * n) scratch.old scratch.new }
 {
-    for i in 0..n {
-        scratch[n + i] = 0;
-    }
+    scratch[n..2 * n].fill(0);
     scratch[0] = a.0;
-    scratch[n + (a.0 as usize - 1)] = 1;
+    scratch[n + a.index()] = 1;
 }
 
 // Adds to the queue what the junction at `head` of it is joined to and was not reached before.
@@ -70,15 +68,13 @@ fn spread<P: ReadablePlan>(
     let n = plan.size() as usize;
     let u = Junction(scratch[head]);
     let mut count = size;
-    let mut last = v;
-    while let Some(w) = plan.next(u, last) {
-        let seat = n + (w.0 as usize - 1);
+    for w in neighbours_above(plan, u, v) {
+        let seat = n + w.index();
         if scratch[seat] == 0 && !plan.joined(v, w) {
             scratch[count] = w.0;
             scratch[seat] = head as u16 + 1;
             count += 1;
         }
-        last = w;
     }
     count
 }
