@@ -5,7 +5,7 @@
 //! the first junction of the queue that is joined to it.
 ghost use Rattle.std.specs.Prelude.{◌≡◌, ℕ, ◌+◌, ◌*◌, ◌<◌, ◌≤◌, true, length, ◌≢◌};
 ghost use Rattle.plan.specs.Memory.{KeptFrom};
-ghost use Rattle.ring.specs.Reach.{queue, mark, Queue, Spread, Meets};
+ghost use Rattle.ring.specs.Reach.{queue, mark, Queue, Spread};
 
 use plan::{Junction, ReadablePlan, neighbours_above};
 
@@ -77,22 +77,4 @@ fn spread<P: ReadablePlan>(
         }
     }
     count
-}
-
-// The first index of the queue whose junction is joined to c.
-pub(crate) fn meeting<P: ReadablePlan>(
-    plan: &P,
-    c: Junction,
-    size: usize,
-    scratch: &[u16],
-) -> Option<usize>
-    requires { size ≤ length scratch.now }
-    ensures { Meets (P.meaning plan.now) c.0 size (queue scratch.now) result }
-{
-    for i in 0..size {
-        if plan.joined(Junction(scratch[i]), c) {
-            return Some(i);
-        }
-    }
-    None
 }
