@@ -1,5 +1,5 @@
--- A ring written down from its end.
-use Rattle.std.proofs.Common.{◌≡◌, ℕ, suc, ◌+◌, ◌-◌, ◌<◌, ◌≤◌, ◌⊎◌, List, length, get_or, take, set, reverse, sym, refl, ap, ◌∙◌, inl, inr, arith, rules}
+-- A ring written down: its path is read back from its end, and turned round.
+use Rattle.std.proofs.Common.{◌≡◌, ℕ, suc, ◌+◌, ◌-◌, ◌<◌, ◌≤◌, ◌⊎◌, List, length, get_or, take, set, reverse, sym, refl, ap, ◌∙◌, inl, inr, add-one, arith, rules}
 use Rattle.std.proofs.lemmas.Grind.{common_steps}
 use Rattle.std.proofs.lemmas.List.{places, get_or-set_same, get_or-set_other, length-set, get_or-take, length-take-le, length-reverse, get_or-reverse}
 use borrow.Rule.Slice.PartMut.{put_mid}
@@ -12,6 +12,17 @@ use Rattle.ring.specs.Calls.{Lists}
 use Rattle.ring.specs.Reach.{Corner, Queue, back}
 use Rattle.ring.proofs.Closing.{Closes, ringed, ringed_path, ringed_last, ring_round, ring_lowest, ring_towards, ring_fits}
 use Rattle.ring.proofs.Rounds.{ring_from_reads}
+
+-- i junctions of the path are read back from index top, and at is the index of the next
+pub record ReadBack (q m : ℕ → ℕ) (top i at : ℕ) (path : List Junction) : Type 0 where
+  pub index : at ≡ back q m top i
+  pub reads : (k : ℕ) → k < i → (get_or path k (record { 0 = 0 })).0 ≡ q (back q m top k)
+
+pub read_more : (q m : ℕ → ℕ) (top i at : ℕ) (path : List Junction) (x : Junction) (at' : ℕ) → ReadBack q m top i at path → i < length path → x.0 ≡ q at → at' ≡ m (q at) - 1 → ReadBack q m top (i + 1) at' (set path i x)
+read_more q m top i at path x at' h l e f = record {
+  index = rw add-one (f ∙ ap (λ y. m (q y) - 1) h.index);
+  reads = λ k b. grind (arith, common_steps, h.reads k, ap q h.index);
+}
 
 -- what is read of a list in which ys stands from index 1 on, in the place of n entries
 module _ {X : Type 0} (xs ys : List X) (n : ℕ) (same : length ys ≡ n) (room : n + 1 ≤ length xs) (i : ℕ) (d : X) where

@@ -25,6 +25,7 @@ pub(crate) fn reach<P: ReadablePlan>(
 {
     let n = plan.size() as usize;
     start(n, a, scratch);
+    // By index, since the queue grows while it is read.
     let mut size = 1;
     let mut head = 0;
     while head < size {

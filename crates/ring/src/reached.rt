@@ -28,7 +28,8 @@ impl<P: ReadablePlan> Reached<'_, P> {
     }
 
     /// Writes the ring v, a, .., u, c, where u stands at index `top` of the queue and a at its
-    /// front: the path between is read back along the forerunners. Answers the ring's length.
+    /// front: the path between is read back along the forerunners, and turned round. Answers the
+    /// ring's length.
     pub(crate) fn list(&self, c: Junction, top: usize, ring: &mut [Junction]) -> u16
         requires room { (P.meaning self.now.plan.now).size ≤ length ring.old }
         requires corner { Corner (P.meaning self.now.plan.now) self.now.v.0 (queue self.now.scratch.now 0) c.0 }
@@ -66,6 +67,7 @@ impl<P: ReadablePlan> Reached<'_, P> {
         ensures front { back (queue self.now.scratch.now) (mark (P.meaning self.now.plan.now).size self.now.scratch.now) top result ≡ 0 }
         ensures before { (j : ℕ) → j < result → 0 < back (queue self.now.scratch.now) (mark (P.meaning self.now.plan.now).size self.now.scratch.now) top j }
     {
+        // From mark to mark: the indices on the path make no range.
         let mut at = top;
         let mut length = 0;
         while at > 0 {

@@ -1,7 +1,7 @@
 use Rattle.std.proofs.Common.{◌≡◌, ℕ, ◌*◌, ◌≤◌, None}
 use Rattle.plan.specs.Memory.{KeptFrom}
 use Rattle.plan.proofs.Walks.{Along}
-use Rattle.ring.proofs.Missing.{NoneAt}
+use Rattle.ring.proofs.Missing.{NoneAt, Visited}
 use Rattle.ring.proofs.find.find_ring.Given as goal
 
 abbrev pub invariant-search : goal.invariant-search
@@ -19,8 +19,7 @@ invariant-loop-a g l =
     × (l.found ≡ None)
     × (l.ring ≡ l.initial.ring)
     × KeptFrom (2 * p.size) l.initial.scratch l.scratch
-    × (l.v.0 ≤ l.a-iterator.last.0)
-    × ((a c : ℕ) → a ≤ l.a-iterator.last.0 → NoneAt p l.v.0 a c)
+    × Visited l.v.0 l.a-iterator.last.0 (λ a. (c : ℕ) → NoneAt p l.v.0 a c)
 
 abbrev pub invariant-loop-c : goal.invariant-loop-c
 invariant-loop-c g l =
@@ -28,5 +27,4 @@ invariant-loop-c g l =
     Along l.c-iterator.plan.now l.plan l.c-iterator.of l.v
     × (l.found ≡ None)
     × (l.ring ≡ l.initial.ring)
-    × (l.a.0 ≤ l.c-iterator.last.0)
-    × ((c : ℕ) → c ≤ l.c-iterator.last.0 → NoneAt p l.v.0 l.a.0 c)
+    × Visited l.a.0 l.c-iterator.last.0 (NoneAt p l.v.0 l.a.0)

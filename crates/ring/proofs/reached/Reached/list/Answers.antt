@@ -1,8 +1,8 @@
-use Rattle.std.proofs.Common.{◌≡◌, ◌+◌, ◌-◌, ◌<◌, ◌≤◌, length, take, drop, set, arith}
+use Rattle.std.proofs.Common.{◌≡◌, ◌+◌, ◌-◌, ◌<◌, ◌≤◌, length, take, drop, set, refl, arith}
 use Rattle.std.proofs.lemmas.List.{length-set, length-take, length-drop}
-use Rattle.ring.specs.Reach.{queue, mark, back}
+use Rattle.ring.specs.Reach.{queue, mark}
 use Rattle.ring.proofs.Closing.{Closes, below, ring_fits}
-use Rattle.ring.proofs.Writing.{length_put, lists_ring}
+use Rattle.ring.proofs.Writing.{read_more, length_put, lists_ring}
 use Rattle.ring.proofs.reached.Reached.list.Given as given
 use Rattle.ring.proofs.reached.Reached.list.Goals as goal
 use Rattle.ring.proofs.reached.Reached.list.Goals.{After-path_length-depth, In-loop-entry}
@@ -32,7 +32,7 @@ part_long g c = let f = fits g c in simp (length-take, length-drop, length-set) 
 inside : (g : given.Over) (c : In-loop-entry g) → c.loop-entry.at < c.args.self.now.size
 inside g c =
     let a = (goal.at.In-loop-entry g c).After-path_length-depth in
-    rw c.loop-entry.invariant.0 (below _ (g.met.P.ReadablePlan.sound c.args.self.now.plan.now) _ _ _ _ _ _ c.requires.corner c.args.self.now.queue _ _ (closes g a) c.loop-entry.entry-index (omega (arith, part_long g a)))
+    rw c.loop-entry.invariant.index (below _ (g.met.P.ReadablePlan.sound c.args.self.now.plan.now) _ _ _ _ _ _ c.requires.corner c.args.self.now.queue _ _ (closes g a) c.loop-entry.entry-index (omega (arith, part_long g a)))
 
 pub offset_bounds-self-at : goal.offset_bounds-self-at
 offset_bounds-self-at g c = record { fits = omega (arith, inside g (goal.at.offset_bounds-self-at g c).In-loop-entry, c.args.self.now.queue.few, (g.met.P.ReadablePlan.sound c.args.self.now.plan.now).few) }
@@ -43,6 +43,9 @@ bounds-self-at g c = omega (arith, inside g (goal.at.bounds-self-at g c).In-loop
 pub forerunner-at-requires : goal.forerunner-at-requires
 forerunner-at-requires g c = inside g (goal.at.forerunner-at-requires g c).In-loop-entry
 
+pub loop-entry-preserved : goal.loop-entry-preserved
+loop-entry-preserved g c = read_more _ _ _ _ _ _ _ _ c.loop-entry.invariant (omega arith) refl c.forerunner-at.ensures
+
 pub bounds-ring-depth : goal.bounds-ring-depth
 bounds-ring-depth g c =
     let a = (goal.at.bounds-ring-depth g c).After-path_length-depth in
@@ -52,4 +55,4 @@ pub returns : goal.returns
 returns g c =
     let a = (goal.at.returns g c).After-path_length-depth in
     let part = part_long g a in
-    rw c.reverse.ensures.after (lists_ring _ (g.met.P.ReadablePlan.sound c.args.self.now.plan.now) c.args.self.now.v c.args.c _ _ _ _ c.requires.corner c.args.self.now.queue _ _ (closes g a) c.args.ring.now c.loop-entry.path c.requires.room (omega (arith, part)) (λ i l. c.loop-entry.invariant.1 i (omega (arith, part))))
+    rw c.reverse.ensures.after (lists_ring _ (g.met.P.ReadablePlan.sound c.args.self.now.plan.now) c.args.self.now.v c.args.c _ _ _ _ c.requires.corner c.args.self.now.queue _ _ (closes g a) c.args.ring.now c.loop-entry.path c.requires.room (omega (arith, part)) (λ i l. c.loop-entry.invariant.reads i (omega (arith, part))))
