@@ -11,5 +11,5 @@ mod runner;
 pub use answer::{Answer, Outcome};
 pub use call::Call;
 pub use laws::run_laws;
-pub use listener::Listener;
+pub use listener::{Listener, Lists};
 pub use runner::run;

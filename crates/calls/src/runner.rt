@@ -10,7 +10,7 @@ ghost use Rattle.calls.specs.Runs.{Answered, RanOrFailed};
 
 use crate::answer::{Answer, Outcome};
 use crate::call::Call;
-use crate::listener::Listener;
+use crate::listener::{Listener, Lists};
 use label::Kind;
 use plan::{Junction, Register};
 use set::Set;
@@ -37,7 +37,8 @@ pub fn run<R: Register, K: Kind, L: Listener>(
 {
     for call in calls {
         let answer = carry_out(set, call, places, ring, rows, labels, scratch);
-        listener.hear(answer, places, ring, rows)?;
+        let lists = Lists { places, ring, rows };
+        listener.hear(answer, lists)?;
     }
     Ok(())
 }

@@ -5,6 +5,7 @@
 #[cfg(test)]
 mod tests;
 
+use calls::Lists;
 use edge::{filled, read_input};
 use image::IMAGE_LIMIT;
 use image_order::{PIPES, order_image};
@@ -33,10 +34,11 @@ fn main(rt: HostRuntime) -> io::Result<()> {
         &mut labels,
         &mut scratch,
     );
-    let listing = Listing {
-        answer,
+    let lists = Lists {
         places: &places,
         ring: &ring,
+        rows: &rows,
     };
+    let listing = Listing { answer, lists };
     print!(rt; "{listing}")
 }

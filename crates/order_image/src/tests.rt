@@ -1,3 +1,4 @@
+use calls::Lists;
 use edge::filled;
 use image_order::{PIPES, order_image};
 use label::{Kind, Lexicographic};
@@ -80,11 +81,12 @@ fn shows(
         &mut labels,
         &mut scratch,
     );
-    let listing = Listing {
-        answer,
+    let lists = Lists {
         places: &places,
         ring: &ring,
+        rows: &rows,
     };
+    let listing = Listing { answer, lists };
     let text = format!(in heap; "{listing}")?;
     assert!(rt; text.as_str() == lines);
     Ok(())

@@ -5,7 +5,7 @@
 ghost use Rattle.std.specs.Prelude.{List};
 ghost use Rattle.calls.specs.Heard.{Heard};
 
-use calls::{Answer, Listener};
+use calls::{Answer, Listener, Lists};
 use edge::{filled, read_input};
 use label::{Count, Either};
 use plan::Junction;
@@ -25,18 +25,8 @@ impl Listener for Printer<'_> {
 
     ghost log = { λ _ _. Unit {0} };
 
-    fn hear(
-        &mut self,
-        answer: Answer,
-        places: &[Junction],
-        ring: &[Junction],
-        _: &[u64],
-    ) -> io::Result<()> {
-        let listing = Listing {
-            answer,
-            places,
-            ring,
-        };
+    fn hear(&mut self, answer: Answer, lists: Lists<'_>) -> io::Result<()> {
+        let listing = Listing { answer, lists };
         print!(self.rt; "{listing}")
     }
 }

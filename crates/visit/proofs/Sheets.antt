@@ -1,11 +1,12 @@
 -- A whole sheet, from its parts.
-use Rattle.std.proofs.Common.{◌≡◌, ℕ, Bool, true, false, ltb, List, [], ◌∷◌, ◌++◌, length, Ok, Err, Result, sym, refl, ap, ◌∙◌, subst, Bor, Some, None}
+use Rattle.std.proofs.Common.{◌≡◌, ℕ, Bool, true, false, ltb, List, [], ◌∷◌, ◌++◌, length, Ok, Err, Result, sym, refl, ap, ◌∙◌, subst, Some, None}
 use Rattle.std.proofs.lemmas.List.{append_assoc, append-nil}
 use Rattle.plan.specs.Plans.{Plan}
 use Rattle.plan.specs.declared.refusal.Refusal.TheVariants.{ShortMemory}
 use Rattle.set.specs.Kept.{ledger}
 use Rattle.set.specs.declared.set.Set.{Set}
 use Rattle.sheet.specs.Lines.{lines}
+use Rattle.sheet.specs.declared.line.Lines as sheet_lines
 use Rattle.calls.specs.Heard.{Heard, Lists, Told}
 use Rattle.calls.specs.Runs.{last_lists}
 use Rattle.visit.specs.Openings.{LinesHeard, OpenedOf, Opening}
@@ -34,11 +35,11 @@ module _ (tight : ℕ → Bool) (spare : ℕ → ℕ) (full : ℕ → Bool) (bef
     sheet_stopped meaning left log log' x o = (o.0, o.1, o.2, o.4, whole o.0 o.2 o.3 o.5, o.6, o.7)
 
     -- a set was made, and the lines behind it went on
-    pub sheet_made : {E R : Type 0} (meaning : R → Plan) (left : R → ℕ) (log log' log'' : List Heard → Type 0) (set : Set R) (rest : Bor (List ℕ)) (now' : Lists) (t : Stage) (r : Result Unit E) → OpenedOf tight spare full meaning left before sheet log log' (Some (set, rest)) → LinesHeard tight spare full (with_set (ledger meaning left set)) before rest.now now' log' log'' t r → VisitHeard tight spare full before sheet now' log log'' t r
+    pub sheet_made : {E R : Type 0} (meaning : R → Plan) (left : R → ℕ) (log log' log'' : List Heard → Type 0) (set : Set R) (rest : sheet_lines.Lines) (now' : Lists) (t : Stage) (r : Result Unit E) → OpenedOf tight spare full meaning left before sheet log log' (Some (set, rest)) → LinesHeard tight spare full (with_set (ledger meaning left set)) before rest.rest.now now' log' log'' t r → VisitHeard tight spare full before sheet now' log log'' t r
     sheet_made meaning left log log' log'' set rest now' t (Ok u) o p =
-        let v = subst (λ (b : Lists). Visited tight spare full (with_set (ledger meaning left set)) b (lines rest.now) p.0 t) o.4 p.1 in (
+        let v = subst (λ (b : Lists). Visited tight spare full (with_set (ledger meaning left set)) b (lines rest.rest.now) p.0 t) o.4 p.1 in (
           o.1 ++ p.0,
-          whole (lines sheet) (o.1 ++ p.0) t (subst (λ (xs : List (List ℕ)). Visited tight spare full no_set before xs (o.1 ++ p.0) t) (sym o.2) (visited_both tight spare full no_set (with_set (ledger meaning left set)) t before o.0 (lines rest.now) o.1 p.0 o.3 v)),
+          whole (lines sheet) (o.1 ++ p.0) t (subst (λ (xs : List (List ℕ)). Visited tight spare full no_set before xs (o.1 ++ p.0) t) (sym o.2) (visited_both tight spare full no_set (with_set (ledger meaning left set)) t before o.0 (lines rest.rest.now) o.1 p.0 o.3 v)),
           p.2 ∙ ap (λ (b : Lists). last_lists b p.0) o.4 ∙ sym (last_lists-both before o.1 p.0),
           told_both log log' log'' o.1 p.0 o.5 p.3,
         )

@@ -1,26 +1,12 @@
 -- Visits that grow by a line.
-use Rattle.std.proofs.Common.{◌≡◌, ℕ, zero, suc, ◌+◌, ◌<◌, Bool, true, false, cond, eqb, List, [], ◌∷◌, ◌++◌, length, take, drop, Ok, Err, Result, Ordering, sym, refl, ap, ◌∙◌, subst, ap₂, true≢false, arith}
+use Rattle.std.proofs.Common.{◌≡◌, ℕ, zero, suc, ◌+◌, ◌<◌, Bool, List, [], ◌∷◌, ◌++◌, take, Ok, Err, Result, Ordering, sym, refl, ap, ◌∙◌, subst, arith}
 use Rattle.std.proofs.lemmas.List.{append_assoc, append-nil}
-use Rattle.std.proofs.lemmas.Bool.{eqb-true}
 use Rattle.set.specs.Ledgers.{Ledger}
-use Rattle.sheet.specs.Lines.{front, back, lines, before_first}
+use Rattle.sheet.specs.Lines.{lines}
 use Rattle.calls.specs.Deeds.{Deed, next}
 use Rattle.calls.specs.Heard.{Heard, Lists, Told}
 use Rattle.calls.specs.Runs.{Answered, Ran, RanOrFailed, last_lists}
 use Rattle.visit.specs.Visits.{Stage, LineHeard, Visited}
-
--- the first line of a sheet, and those behind
-pub lines_first : (b : ℕ) (bs : List ℕ) → lines (b ∷ bs) ≡ front 10 (b ∷ bs) ∷ lines (drop 1 (back 10 (b ∷ bs)))
-lines_first b [] = by (eqb b 10)
-  where
-    by : (t : Bool) → cond t ([] ∷ []) (before_first b []) ≡ cond t [] (b ∷ []) ∷ lines (drop 1 (cond t (b ∷ []) []))
-    by true = refl
-    by false = refl
-lines_first b (c ∷ cs) = by (eqb b 10) (lines_first c cs)
-  where
-    by : (t : Bool) → lines (c ∷ cs) ≡ front 10 (c ∷ cs) ∷ lines (drop 1 (back 10 (c ∷ cs))) → cond t ([] ∷ lines (c ∷ cs)) (before_first b (lines (c ∷ cs))) ≡ cond t [] (b ∷ front 10 (c ∷ cs)) ∷ lines (drop 1 (cond t (b ∷ c ∷ cs) (back 10 (c ∷ cs))))
-    by true e = refl
-    by false e = ap (before_first b) e
 
 -- a list of one call
 module _ {K L : Type 0} (blank : K → L) (raised : K → L → ℕ → L) (compared : K → L → L → Ordering) where
@@ -52,10 +38,6 @@ last_lists-both before (h ∷ hs) gs = last_lists-both h.lists hs gs
 pub told_both : (log log' log'' : List Heard → Type 0) (hs gs : List Heard) → Told log log' hs → Told log' log'' gs → Told log log'' (hs ++ gs)
 told_both log log' log'' hs gs a b old h = subst log'' (append_assoc old hs gs) (b (old ++ hs) (a old h))
 
-first_line : (rest : List ℕ) → false ≡ eqb (length rest) 0 → lines rest ≡ front 10 rest ∷ lines (drop 1 (back 10 rest))
-first_line [] e = absurd (true≢false (sym e))
-first_line (b ∷ bs) e = lines_first b bs
-
 module _ (tight : ℕ → Bool) (spare : ℕ → ℕ) (full : ℕ → Bool) where
   -- two parts of a visit, one after the other
   pub visited_both : (s m t : Stage) (before : Lists) (xs ys : List (List ℕ)) (hs gs : List Heard) → Visited tight spare full s before xs hs m → Visited tight spare full m (last_lists before hs) ys gs t → Visited tight spare full s before (xs ++ ys) (hs ++ gs) t
@@ -81,17 +63,16 @@ module _ (tight : ℕ → Bool) (spare : ℕ → ℕ) (full : ℕ → Bool) wher
   heard_same tight' spare' full' s m before line h e f i l = subst (λ (t : ℕ → Bool). LineHeard t spare full s before line h m) e (subst (λ (x : ℕ → ℕ). LineHeard tight' x full s before line h m) f (subst (λ (y : ℕ → Bool). LineHeard tight' spare' y s before line h m) i l))
 
   -- one line more
-  pub gone_next : (s m t : Stage) (before now now' : Lists) (text rest rest' line : List ℕ) (log log' log'' : List Heard → Type 0) (h : Heard) → false ≡ eqb (length rest) 0 → line ≡ front 10 rest → rest' ≡ drop 1 (back 10 rest) → now' ≡ h.lists → Gone s before text rest t now log log' → LineHeard tight spare full t now line h m → Told log' log'' (h ∷ []) → Gone s before text rest' m now' log log''
-  gone_next s m t before now now' text rest rest' line log log' log'' h e f r w g l told = record {
+  pub gone_next : (s m t : Stage) (before now now' : Lists) (text rest rest' line : List ℕ) (log log' log'' : List Heard → Type 0) (h : Heard) → lines rest ≡ line ∷ lines rest' → now' ≡ h.lists → Gone s before text rest t now log log' → LineHeard tight spare full t now line h m → Told log' log'' (h ∷ []) → Gone s before text rest' m now' log log''
+  gone_next s m t before now now' text rest rest' line log log' log'' h cut w g l told = record {
     done = g.done ++ line ∷ [];
     answers = g.answers ++ h ∷ [];
-    parts = g.parts ∙ ap (λ (xs : List (List ℕ)). g.done ++ xs) (first_line rest e ∙ ap₂ (λ (x y : List ℕ). x ∷ lines y) (sym f) (sym r)) ∙ sym (append_assoc g.done (line ∷ []) (lines rest'));
+    parts = g.parts ∙ ap (λ (xs : List (List ℕ)). g.done ++ xs) cut ∙ sym (append_assoc g.done (line ∷ []) (lines rest'));
     visited = visited_both s t m before g.done (line ∷ []) g.answers (h ∷ []) g.visited (m, subst (λ (x : Lists). LineHeard tight spare full t x line h m) g.lists l, refl);
     lists = w ∙ sym (last_lists-both before g.answers (h ∷ []));
     told = told_both log log' log'' g.answers (h ∷ []) g.told told;
   }
 
   -- all lines
-  pub all_gone : (s t : Stage) (before now : Lists) (text rest : List ℕ) (log log' : List Heard → Type 0) → true ≡ eqb (length rest) 0 → (p : Gone s before text rest t now log log') → Visited tight spare full s before (lines text) p.answers t
-  all_gone s t before now text [] log log' e p = subst (λ (xs : List (List ℕ)). Visited tight spare full s before xs p.answers t) (sym (p.parts ∙ append-nil p.done)) p.visited
-  all_gone s t before now text (b ∷ bs) log log' e p = absurd (let z : suc (length bs) ≡ 0 = eqb-true (length (b ∷ bs)) 0 (sym e) in omega (arith, z))
+  pub all_gone : (s t : Stage) (before now : Lists) (text rest : List ℕ) (log log' : List Heard → Type 0) → lines rest ≡ [] → (p : Gone s before text rest t now log log') → Visited tight spare full s before (lines text) p.answers t
+  all_gone s t before now text rest log log' e p = subst (λ (xs : List (List ℕ)). Visited tight spare full s before xs p.answers t) (sym (p.parts ∙ ap (λ (xs : List (List ℕ)). p.done ++ xs) e ∙ append-nil p.done)) p.visited

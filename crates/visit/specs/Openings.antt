@@ -1,12 +1,12 @@
 -- The two parts of a visit: the lines up to a set, and the lines behind.
 use Rattle.std.specs.Prelude.{◌≡◌, ℕ, Bool, List, [], ◌∷◌, ◌++◌, Some, None, Ok, Err, Option, Result}
-use Rattle.std.specs.Borrow.{Bor}
 use Rattle.plan.specs.Plans.{Plan}
 use Rattle.plan.specs.declared.turned_down.TurnedDown.{TurnedDown}
 use Rattle.set.specs.Kept.{ledger}
 use Rattle.set.specs.declared.set.Set.{Set}
 use Rattle.sheet.specs.Calls.{Spelled}
 use Rattle.sheet.specs.Lines.{lines}
+use Rattle.sheet.specs.declared.line.Lines as sheet_lines
 use Rattle.calls.specs.Deeds.{Deed, deed}
 use Rattle.calls.specs.Heard.{Heard, Lists, Told}
 use Rattle.calls.specs.Runs.{last_lists}
@@ -52,13 +52,13 @@ module _ (tight : ℕ → Bool) (spare : ℕ → ℕ) (full : ℕ → Bool) wher
       (done : List (List ℕ)) × (more : List (List ℕ)) × (hs : List Heard) × (lines text ≡ done ++ more) × Visited tight spare full s before done hs t × (last ≡ last_lists before hs) × Told log log' hs
 
   -- the lines up to a set that was made, with the rest of the sheet; or all lines, none of which made one; no answer list is written
-  abbrev pub OpenedOf : {R : Type 0} → (R → Plan) → (R → ℕ) → Lists → List ℕ → (List Heard → Type 0) → (List Heard → Type 0) → Option (Set R × Bor (List ℕ)) → Type 0
-  OpenedOf meaning left before sheet log log' (Some (set, rest)) =
-      (done : List (List ℕ)) × (hs : List Heard) × (lines sheet ≡ done ++ lines rest.now) × Visited tight spare full no_set before done hs (with_set (ledger meaning left set)) × (before ≡ last_lists before hs) × Told log log' hs
+  abbrev pub OpenedOf : {R : Type 0} → (R → Plan) → (R → ℕ) → Lists → List ℕ → (List Heard → Type 0) → (List Heard → Type 0) → Option (Set R × sheet_lines.Lines) → Type 0
+  OpenedOf meaning left before sheet log log' (Some (set, more)) =
+      (done : List (List ℕ)) × (hs : List Heard) × (lines sheet ≡ done ++ lines more.rest.now) × Visited tight spare full no_set before done hs (with_set (ledger meaning left set)) × (before ≡ last_lists before hs) × Told log log' hs
   OpenedOf meaning left before sheet log log' None =
       (hs : List Heard) × Visited tight spare full no_set before (lines sheet) hs no_set × (before ≡ last_lists before hs) × Told log log' hs
 
-  abbrev pub Opening : {R E : Type 0} → (R → Plan) → (R → ℕ) → Lists → List ℕ → (List Heard → Type 0) → (List Heard → Type 0) → Result (Option (Set R × Bor (List ℕ))) E → Type 0
+  abbrev pub Opening : {R E : Type 0} → (R → Plan) → (R → ℕ) → Lists → List ℕ → (List Heard → Type 0) → (List Heard → Type 0) → Result (Option (Set R × sheet_lines.Lines)) E → Type 0
   Opening meaning left before sheet log log' (Ok o) = OpenedOf meaning left before sheet log log' o
   Opening meaning left before sheet log log' (Err e) =
       (done : List (List ℕ)) × (more : List (List ℕ)) × (hs : List Heard) × (t : Stage) × (lines sheet ≡ done ++ more) × Visited tight spare full no_set before done hs t × (before ≡ last_lists before hs) × Told log log' hs

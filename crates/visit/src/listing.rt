@@ -3,29 +3,28 @@ ghost use Rattle.std.specs.Prelude.{◌≡◌, ◌++◌, codes, take, Some};
 ghost use Rattle.std.specs.Fmt.{WritesOnOk};
 ghost use Rattle.visit.specs.Listings.{spaced, junction_line, fill_line, ring_line, listing};
 
-use calls::{Answer, Outcome};
+use calls::{Answer, Lists, Outcome};
 use order::Report;
 use plan::Junction;
 use std::fmt;
 
-/// An answer with the places and the ring that an order wrote, as the lines of a listing: `ok`, or
-/// `no` and the number, or the three lines of an order.
+/// An answer with the lists that an order wrote, as the lines of a listing: `ok`, or `no` and the
+/// number, or the three lines of an order.
 #[derive(Clone, Copy)]
-pub struct Listing<'a, 'b> {
+pub struct Listing<'a> {
     pub answer: Answer,
-    pub places: &'a [Junction],
-    pub ring: &'b [Junction],
+    pub lists: Lists<'a>,
 }
 
-impl fmt::Display for Listing<'_, '_> {
-    ghost output = { λ x. Some (listing x.answer x.places.now x.ring.now) };
+impl fmt::Display for Listing<'_> {
+    ghost output = { λ x. Some (listing x.answer x.lists.places.now x.lists.ring.now) };
 
     fn fmt<W: fmt::Write>(&self, f: &mut fmt::Formatter<W>) -> fmt::Result {
         match self.answer {
             Ok(Outcome::Done) => writeln!(f, "ok"),
             Err(refusal) => writeln!(f, "no {refusal}"),
             Ok(Outcome::Ordered(n, report)) => {
-                write_order(f, first(self.places, n), report, self.ring)
+                write_order(f, first(self.lists.places, n), report, self.lists.ring)
             }
         }
     }

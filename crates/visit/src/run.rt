@@ -3,16 +3,17 @@ ghost use Rattle.std.specs.Prelude.{◌≡◌, ℕ, ◌*◌, Bool};
 ghost use Rattle.plan.specs.Memory.{KeptFrom};
 ghost use Rattle.order.specs.Reports.{short};
 ghost use Rattle.set.specs.Kept.{ledger};
-ghost use Rattle.calls.specs.Heard.{Lists, lists_of};
+ghost use Rattle.calls.specs.Heard as told;
+ghost use Rattle.calls.specs.Heard.{lists_of};
 ghost use Rattle.visit.specs.Openings.{NewSize, SetCall, SetMade, LineRun, LinesHeard, Opening};
 ghost use Rattle.visit.specs.Visits.{with_set, Visit, Makes};
 
 use crate::maker::Maker;
-use calls::{Call, Listener, Outcome, run};
+use calls::{Call, Listener, Lists, Outcome, run};
 use label::{Count, Counting, Either, Lexicographic, MarkSet};
 use plan::{Junction, Refusal, Register, TurnedDown};
 use set::Set;
-use sheet::{Call as Spelled, next_line, read_call};
+use sheet::{Call as Spelled, Lines, read_call};
 
 /// The most bytes that a sheet may have.
 pub const SHEET_LIMIT: usize = 16384;
@@ -39,42 +40,43 @@ pub fn visit<M: Maker + Drop, L: Listener>(
     ensures { (spare : M → ℕ → ℕ) (full : M → ℕ → Bool) → Makes M.Maker.makes M.Made.ReadablePlan.meaning M.Made.Register.left spare full → Visit (λ n. short n places.old ring.old rows.old labels.old scratch.old) (spare maker) (full maker) (lists_of places.old ring.old rows.old) sheet.now (lists_of places.new ring.new rows.new) (L.Listener.log listener.old) (L.Listener.log listener.new) labels.old labels.new scratch.old scratch.new result }
 {
     if sheet.len() > SHEET_LIMIT {
-        return listener.hear(Err(Refusal::ShortMemory), places, ring, rows);
+        return listener.hear(Err(Refusal::ShortMemory), Lists { places, ring, rows });
     }
-    match open_set(sheet, maker, listener, places, ring, rows)? {
-        Some((mut set, rest)) => run_lines(
-            &mut set, rest, listener, places, ring, rows, labels, scratch,
+    match open_set(
+        Lines::new(sheet),
+        maker,
+        listener,
+        Lists { places, ring, rows },
+    )? {
+        Some((mut set, lines)) => run_lines(
+            &mut set, lines, listener, places, ring, rows, labels, scratch,
         ),
         None => Ok(()),
     }
 }
 
-// Reads lines until one makes a set; every other is no call. Answers the set with what is left of
-// the sheet behind its line, or `None` at the sheet's end. What is heard of the lines does not hang
+// Reads lines until one makes a set; every other is no call. Answers the set with the lines behind
+// its line, or `None` at the sheet's end. What is heard of the lines does not hang
 // on the memory for orders, whatever `tight` says of it.
 fn open_set<'a, M: Maker + Drop, L: Listener>(
-    sheet: &'a [u8],
+    lines: Lines<'a>,
     maker: M,
     listener: &mut L,
-    places: &[Junction],
-    ring: &[Junction],
-    rows: &[u64],
-) -> Result<Option<(Set<M::Made>, &'a [u8])>, L::Error>
-    ensures { (tight : ℕ → Bool) (spare : M → ℕ → ℕ) (full : M → ℕ → Bool) → Makes M.Maker.makes M.Made.ReadablePlan.meaning M.Made.Register.left spare full → Opening tight (spare maker) (full maker) M.Made.ReadablePlan.meaning M.Made.Register.left (lists_of places.now ring.now rows.now) sheet.now (L.Listener.log listener.old) (L.Listener.log listener.new) result }
+    lists: Lists<'_>,
+) -> Result<Option<(Set<M::Made>, Lines<'a>)>, L::Error>
+    ensures { (tight : ℕ → Bool) (spare : M → ℕ → ℕ) (full : M → ℕ → Bool) → Makes M.Maker.makes M.Made.ReadablePlan.meaning M.Made.Register.left spare full → Opening tight (spare maker) (full maker) M.Made.ReadablePlan.meaning M.Made.Register.left (lists_of lists.entry.places.now lists.entry.ring.now lists.entry.rows.now) lines.entry.rest.now (L.Listener.log listener.old) (L.Listener.log listener.new) result }
 {
     let mut maker = maker;
-    let mut rest = sheet;
-    while !rest.is_empty() {
-        let (line, next) = next_line(rest);
-        rest = next;
+    let mut lines = lines;
+    while let Some(line) = lines.next() {
         match new_set(line, maker) {
             Ok(set) => {
-                listener.hear(Ok(Outcome::Done), places, ring, rows)?;
-                return Ok(Some((set, rest)));
+                listener.hear(Ok(Outcome::Done), lists)?;
+                return Ok(Some((set, lines)));
             }
             Err(turned) => {
                 maker = turned.memory;
-                listener.hear(Err(turned.refusal), places, ring, rows)?;
+                listener.hear(Err(turned.refusal), lists)?;
             }
         }
     }
@@ -83,7 +85,7 @@ fn open_set<'a, M: Maker + Drop, L: Listener>(
 
 // Makes the set that a line asks for; a line that asks for none is turned down by 7.
 fn new_set<M: Maker>(line: &[u8], maker: M) -> Result<Set<M::Made>, TurnedDown<M>>
-    ensures { (tight : ℕ → Bool) (before : Lists) (spare : M → ℕ → ℕ) (full : M → ℕ → Bool) → Makes M.Maker.makes M.Made.ReadablePlan.meaning M.Made.Register.left spare full → SetMade tight (spare maker) (full maker) M.Made.ReadablePlan.meaning M.Made.Register.left before line.now maker result }
+    ensures { (tight : ℕ → Bool) (before : told.Lists) (spare : M → ℕ → ℕ) (full : M → ℕ → Bool) → Makes M.Maker.makes M.Made.ReadablePlan.meaning M.Made.Register.left spare full → SetMade tight (spare maker) (full maker) M.Made.ReadablePlan.meaning M.Made.Register.left before line.now maker result }
 {
     let Some(n) = new_size(line) else {
         return Err(TurnedDown {
@@ -94,10 +96,10 @@ fn new_set<M: Maker>(line: &[u8], maker: M) -> Result<Set<M::Made>, TurnedDown<M
     Ok(Set::new(maker.make(n)?))
 }
 
-// Makes the calls of the lines of a text on a set.
+// Makes the calls of lines on a set.
 fn run_lines<R: Register, L: Listener>(
     set: &mut Set<R>,
-    text: &[u8],
+    lines: Lines<'_>,
     listener: &mut L,
     places: &mut [Junction],
     ring: &mut [Junction],
@@ -105,15 +107,12 @@ fn run_lines<R: Register, L: Listener>(
     labels: &mut [LabelOfVisit],
     scratch: &mut [u16],
 ) -> Result<(), L::Error>
-    ensures heard { (spare : ℕ → ℕ) (full : ℕ → Bool) → LinesHeard (λ n. short n places.old ring.old rows.old labels.old scratch.old) spare full (with_set (ledger R.ReadablePlan.meaning R.Register.left set.old)) (lists_of places.old ring.old rows.old) text.now (lists_of places.new ring.new rows.new) (L.Listener.log listener.old) (L.Listener.log listener.new) (with_set (ledger R.ReadablePlan.meaning R.Register.left set.new)) result }
+    ensures heard { (spare : ℕ → ℕ) (full : ℕ → Bool) → LinesHeard (λ n. short n places.old ring.old rows.old labels.old scratch.old) spare full (with_set (ledger R.ReadablePlan.meaning R.Register.left set.old)) (lists_of places.old ring.old rows.old) lines.entry.rest.now (lists_of places.new ring.new rows.new) (L.Listener.log listener.old) (L.Listener.log listener.new) (with_set (ledger R.ReadablePlan.meaning R.Register.left set.new)) result }
     ensures size { (ledger R.ReadablePlan.meaning R.Register.left set.new).base.size ≡ (ledger R.ReadablePlan.meaning R.Register.left set.old).base.size }
     ensures labels { KeptFrom (ledger R.ReadablePlan.meaning R.Register.left set.old).base.size labels.old labels.new }
     ensures scratch { KeptFrom (2 * (ledger R.ReadablePlan.meaning R.Register.left set.old).base.size) scratch.old scratch.new }
 {
-    let mut rest = text;
-    while !rest.is_empty() {
-        let (line, next) = next_line(rest);
-        rest = next;
+    for line in lines {
         run_line(set, line, listener, places, ring, rows, labels, scratch)?;
     }
     Ok(())
@@ -137,7 +136,7 @@ fn run_line<R: Register, L: Listener>(
 {
     match set_call(line) {
         Some(call) => run(set, &[call], listener, places, ring, rows, labels, scratch),
-        None => listener.hear(Err(Refusal::NoCall), places, ring, rows),
+        None => listener.hear(Err(Refusal::NoCall), Lists { places, ring, rows }),
     }
 }
 
@@ -155,14 +154,13 @@ fn new_size(line: &[u8]) -> Option<u16>
 fn set_call(line: &[u8]) -> Option<Call<'_, KindOfLabel>>
     ensures { SetCall line.now result }
 {
-    match read_call(line) {
-        Some(Spelled::Join(v, w)) => Some(Call::Join(v, w)),
-        Some(Spelled::Cut(v, w)) => Some(Call::Cut(v, w)),
-        Some(Spelled::Shut(v)) => Some(Call::Shut(v)),
-        Some(Spelled::Open(v)) => Some(Call::Open(v)),
-        Some(Spelled::OrderLexicographic) => Some(Call::Order(Either::First(Lexicographic))),
-        Some(Spelled::OrderCounting) => Some(Call::Order(Either::Second(Counting))),
-        Some(Spelled::New(_)) => None,
-        None => None,
-    }
+    Some(match read_call(line)? {
+        Spelled::Join(v, w) => Call::Join(v, w),
+        Spelled::Cut(v, w) => Call::Cut(v, w),
+        Spelled::Shut(v) => Call::Shut(v),
+        Spelled::Open(v) => Call::Open(v),
+        Spelled::OrderLexicographic => Call::Order(Either::First(Lexicographic)),
+        Spelled::OrderCounting => Call::Order(Either::Second(Counting)),
+        Spelled::New(_) => return None,
+    })
 }

@@ -1,5 +1,5 @@
 use bits::BitRegister;
-use calls::{Answer, Listener};
+use calls::{Answer, Listener, Lists};
 use edge::filled;
 use label::{Count, Either};
 use plan::{Junction, Refusal, TurnedDown};
@@ -42,18 +42,8 @@ impl Listener for Tape {
 
     ghost log = { λ _ _. Unit {0} };
 
-    fn hear(
-        &mut self,
-        answer: Answer,
-        places: &[Junction],
-        ring: &[Junction],
-        _: &[u64],
-    ) -> Result<(), AllocError> {
-        let listing = Listing {
-            answer,
-            places,
-            ring,
-        };
+    fn hear(&mut self, answer: Answer, lists: Lists<'_>) -> Result<(), AllocError> {
+        let listing = Listing { answer, lists };
         let lines = format!(in self.heap; "{listing}")?;
         self.text.push_str(lines.as_str())
     }
