@@ -25,16 +25,6 @@ module _ (p : Plan) (sound : Sound p) where
   none_across v a c j k r h e₀ e₁ e₂ =
       both_ways _ (h.round.apart 1 (k - 1) (omega (arith, h.round.long)) (omega (arith, h.round.long)) (omega (arith, h.round.long))) (ap₂ p.joins e₁ e₂ ∙ j)
 
-  pub none_turned : (v a c : ℕ) → c ≤ a → NoneAt p v a c
-  none_turned v a c l k r h e₀ e₁ e₂ =
-      let t : r 1 < r (k - 1) = h.towards (k - 1) (omega (arith, h.round.long)) in
-      omega (arith, t, e₁, e₂)
-
-  pub none_lower : (v a c : ℕ) → a ≤ v → NoneAt p v a c
-  none_lower v a c l k r h e₀ e₁ e₂ =
-      let t : r 0 < r 1 = h.lowest_first 1 (omega arith) (omega (arith, h.round.long)) in
-      omega (arith, t, e₀, e₁)
-
   -- the search around r 0 from r 1 reaches every junction of the ring up to the last but one
   module _ (k : ℕ) (r : ℕ → ℕ) (h : Directed p.joins k r) (size : ℕ) (q m : ℕ → ℕ) (z : Queue p (r 0) (r 1) size q m) (all : Spread p (r 0) size q m) where
     reached : (j : ℕ) → suc j + 1 < k → (i : ℕ) × (i < size) × (q i ≡ r (suc j))
@@ -71,19 +61,24 @@ module _ (p : Plan) (sound : Sound p) where
       let i = sound.inside (r 0) (sound.ends (r 0) (r 1) near).0 in
       none (r 0) (r 1) _ i.0 i.1 _ r d.1 refl refl refl
 
--- what holds of every number that is no neighbour of v, and of the neighbours up to the last one visited
-module _ (p : Plan) (v last : ℕ) (P : ℕ → Type 0) (other : (x : ℕ) → p.joins v x ≡ false → P x) (upto : (x : ℕ) → x ≤ last → P x) where
-  pub visit_more : (y : Junction) → NextNeighbour p v last (Some y) → P y.0 → (x : ℕ) → x ≤ y.0 → P x
-  visit_more y h here x l = go (cases_lt last x) (cases_eq x y.0)
+-- the neighbours of a junction from low on are visited up to last, and P holds of every number up to there
+pub record Visited (low last : ℕ) (P : ℕ → Type 0) : Type 0 where
+  pub from : low ≤ last
+  pub upto : (x : ℕ) → x ≤ last → P x
+
+-- P holds of every number that is no neighbour
+module _ (p : Plan) (v : ℕ) {low last : ℕ} {P : ℕ → Type 0} (other : (x : ℕ) → p.joins v x ≡ false → P x) (h : Visited low last P) where
+  pub visit_more : {y y' : Junction} → NextNeighbour p v last (Some y) → y' ≡ y → P y.0 → Visited low y'.0 P
+  visit_more {y} m e here = rw e (record { from = omega (arith, h.from, m.0); upto = λ x l. go x l (cases_lt last x) (cases_eq x y.0) })
     where
-      go : (last < x) ⊎ (x ≤ last) → (x ≡ y.0) ⊎ (x ≡ y.0 → ⊥) → P x
-      go (inr k) c = upto x k
-      go (inl k) (inl e) = rw e here
-      go (inl k) (inr ne) = other x (h.2 x k (omega arith))
+      go : (x : ℕ) → x ≤ y.0 → (last < x) ⊎ (x ≤ last) → (x ≡ y.0) ⊎ (x ≡ y.0 → ⊥) → P x
+      go x l (inr k) c = h.upto x k
+      go x l (inl k) (inl e) = rw e here
+      go x l (inl k) (inr ne) = other x (m.2 x k (omega arith))
 
   pub visit_all : NextNeighbour p v last None → (x : ℕ) → P x
-  visit_all h x = go (cases_lt last x)
+  visit_all m x = go (cases_lt last x)
     where
       go : (last < x) ⊎ (x ≤ last) → P x
-      go (inr k) = upto x k
-      go (inl k) = other x (h x k)
+      go (inr k) = h.upto x k
+      go (inl k) = other x (m x k)

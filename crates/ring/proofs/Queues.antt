@@ -1,5 +1,5 @@
 -- The queue of a breadth-first search, and how it grows.
-use Rattle.std.proofs.Common.{◌≡◌, ℕ, zero, suc, ◌+◌, ◌-◌, ◌*◌, ◌<◌, ◌≤◌, true, false, cond, not, eqb, ◌≢◌, ◌⊎◌, List, length, get_or, set, Some, None, sym, refl, ap, ◌∙◌, ap₂, inl, inr, arith}
+use Rattle.std.proofs.Common.{◌≡◌, ℕ, zero, suc, ◌+◌, ◌-◌, ◌*◌, ◌<◌, ◌≤◌, true, false, cond, not, eqb, ◌≢◌, ◌⊎◌, List, length, get_or, set, Some, sym, refl, ap, ◌∙◌, ap₂, inl, inr, arith}
 use Rattle.std.proofs.lemmas.List.{get_or-set_same, get_or-set_other, length-set}
 use Rattle.std.proofs.lemmas.Bool.{cases_eq, cases_lt, cases_Bool, both_ways, eq-eqb, ne_eqb, not_from_true, not_from_false}
 use Rattle.plan.specs.Plans.{Plan, Sound, NextNeighbour, count}
@@ -106,37 +106,6 @@ pub neighbour_inside : (p : Plan) → Sound p → (u last : ℕ) (w : Junction) 
 neighbour_inside p s u last w h = s.inside w.0 (s.ends u w.0 h.1).1
 
 module _ (p : Plan) (sound : Sound p) (v a head u size now' last : ℕ) (s₀ s : List ℕ) (h : Walked p v a head u size now' last s₀ s) where
-  -- past a neighbour that is not taken into the queue
-  pub walk_skips : (w : Junction) → NextNeighbour p u last (Some w) → (mark p.size s w.0 ≡ 0 → ⊥) ⊎ (p.joins v w.0 ≡ true) → Walked p v a head u size now' w.0 s₀ s
-  walk_skips w nb why = record {
-    long = h.long;
-    grows = h.grows;
-    above = omega (arith, h.above, nb.0);
-    at_head = h.at_head;
-    grown = h.grown;
-    done = h.done;
-    here = λ x l o j m. here x l o j m (cases_eq x w.0) (cases_lt last x);
-    behind = h.behind;
-  }
-    where
-      here : (x : ℕ) → x ≤ w.0 → Open p v x → p.joins u x ≡ true → mark p.size s x ≡ 0 → (x ≡ w.0) ⊎ (x ≡ w.0 → ⊥) → (last < x) ⊎ (x ≤ last) → ⊥
-      here x l o j m c (inr k) = h.here x k o j m
-      here x l o j m (inr ne) (inl k) = both_ways _ (nb.2 x k (omega arith)) j
-      here x l o j m (inl e) (inl k) = skipped why
-        where
-          skipped : (mark p.size s w.0 ≡ 0 → ⊥) ⊎ (p.joins v w.0 ≡ true) → ⊥
-          skipped (inl no') = no' (sym (ap (mark p.size s) e) ∙ m)
-          skipped (inr yes') = both_ways _ o.apart (ap (p.joins v) e ∙ yes')
-
-  -- the walk is over
-  pub walk_ends : NextNeighbour p u last None → Spread p v (head + 1) (queue s) (mark p.size s)
-  walk_ends nb k w l o j m = go (cases_eq k head) (cases_lt last w)
-    where
-      go : (k ≡ head) ⊎ (k ≡ head → ⊥) → (last < w) ⊎ (w ≤ last) → ⊥
-      go (inr ne) c = h.done k w (omega arith) o j m
-      go (inl e) (inl c) = both_ways _ (nb w c) (sym (ap (λ x. p.joins x w) (ap (queue s) e ∙ h.at_head)) ∙ j)
-      go (inl e) (inr c) = h.here w c o (sym (ap (λ x. p.joins x w) (ap (queue s) e ∙ h.at_head)) ∙ j) m
-
   -- a neighbour is taken into the queue
   module _ (w : Junction) (nb : NextNeighbour p u last (Some w)) (fresh : mark p.size s w.0 ≡ 0) (apart : p.joins v w.0 ≡ false) (inside : head < size) (room : 2 * p.size ≤ length s₀) where
     w_open : Open p v w.0

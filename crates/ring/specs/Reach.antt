@@ -1,5 +1,8 @@
 -- The breadth-first search around a junction v, from its neighbour a.
 use Rattle.std.specs.Prelude.{◌≡◌, ℕ, zero, suc, ◌+◌, ◌-◌, ◌<◌, ◌≤◌, true, false, not, List, Some, None, Option, ◌==◌, ◌≢◌, slice_index}
+use Rattle.std.proofs.Common.{ap, arith}
+use Rattle.std.proofs.Props.{props}
+use mathlib.Core.HLevel.{Σ_prop_path}
 use Rattle.plan.specs.Plans.{Plan, count}
 
 -- scratch holds the queue of reached junctions, and behind it for each of the n junctions 0, or one more than the queue index of its forerunner
@@ -53,3 +56,12 @@ Meets p c size q (Some i) = (i < size) × (p.joins (q i) c ≡ true) × ((j : �
 abbrev pub back : (ℕ → ℕ) → (ℕ → ℕ) → ℕ → ℕ → ℕ
 back q m i zero = i
 back q m i (suc j) = m (q (back q m i j)) - 1
+
+-- a junction stands at one index of a queue in which none comes twice, and a queue is one in one way
+index_once : {size w : ℕ} {q : ℕ → ℕ} → ((i j : ℕ) → i < j → j < size → q i ≢ q j) → IsProp ((i : ℕ) × (i < size) × (q i ≡ w))
+index_once {size} {w} {q} once x y =
+    let e : x.0 ≡ y.0 = grind (arith, once) in
+    ap (λ (z : (i : ℕ) × ((i < size) × (q i ≡ w))). (z.0, z.1.0, z.1.1)) (Σ_prop_path (λ i. hlevel props) {u = (x.0, (x.1, x.2))} {v = (y.0, (y.1, y.2))} e)
+
+pub Queue-prop : (p : Plan) (v a size : ℕ) (q m : ℕ → ℕ) → IsProp (Queue p v a size q m)
+Queue-prop p v a size q m = hlevel (props, index_once)

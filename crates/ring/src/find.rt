@@ -3,9 +3,9 @@ ghost use Rattle.std.specs.Prelude.{◌≡◌, [], ◌∷◌};
 ghost use Rattle.plan.specs.Refusals.{heard, checked};
 ghost use Rattle.ring.specs.Calls.{FindRing, short};
 
-use crate::list::list_ring;
-use crate::reach::{meeting, reach};
-use plan::{Junction, ReadablePlan, Refusal};
+use crate::reach::reach;
+use crate::reached::Reached;
+use plan::{Junction, ReadablePlan, Refusal, neighbours_above};
 
 /// Writes a ring of the plan to the front of `ring`, listed from its lowest junction towards the
 /// lower of that junction's two neighbours in it, and answers its length; 0 where the plan has no
@@ -23,25 +23,27 @@ pub fn find_ring<P: ReadablePlan>(
     if ring.len() < n as usize || scratch.len() < 2 * n as usize {
         return Err(Refusal::ShortMemory);
     }
-    let mut found = 0;
+    let mut found = None;
     'search: for i in 0..n {
         let v = Junction(i + 1);
-        let mut a = v;
-        while let Some(x) = plan.next(v, a) {
-            a = x;
+        for a in neighbours_above(plan, v, v) {
             let size = reach(plan, v, a, scratch);
-            let mut c = a;
-            while let Some(y) = plan.next(v, c) {
-                c = y;
+            let reached = Reached {
+                plan,
+                v,
+                size,
+                scratch,
+            };
+            for c in neighbours_above(plan, v, a) {
                 if plan.joined(a, c) {
                     continue;
                 }
-                if let Some(top) = meeting(plan, c, size, scratch) {
-                    found = list_ring(plan, v, c, size, top, ring, scratch);
+                if let Some(top) = reached.meeting(c) {
+                    found = Some(reached.list(c, top, ring));
                     break 'search;
                 }
             }
         }
     }
-    Ok(found)
+    Ok(found.unwrap_or(0))
 }

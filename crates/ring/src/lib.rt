@@ -7,7 +7,7 @@
 #![tactic(auto)]
 
 mod find;
-mod list;
 mod reach;
+mod reached;
 
 pub use find::find_ring;

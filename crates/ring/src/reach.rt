@@ -5,9 +5,9 @@
 //! the first junction of the queue that is joined to it.
 ghost use Rattle.std.specs.Prelude.{◌≡◌, ℕ, ◌+◌, ◌*◌, ◌<◌, ◌≤◌, true, length, ◌≢◌};
 ghost use Rattle.plan.specs.Memory.{KeptFrom};
-ghost use Rattle.ring.specs.Reach.{queue, mark, Queue, Spread, Meets};
+ghost use Rattle.ring.specs.Reach.{queue, mark, Queue, Spread};
 
-use plan::{Junction, ReadablePlan};
+use plan::{Junction, ReadablePlan, neighbours_above};
 
 // Reaches from a, a neighbour of v above it, all that can be reached through junctions above v
 // that are not joined to v. Answers how many junctions the queue holds, a first.
@@ -25,6 +25,7 @@ pub(crate) fn reach<P: ReadablePlan>(
 {
     let n = plan.size() as usize;
     start(n, a, scratch);
+    // By index, since the queue grows while it is read.
     let mut size = 1;
     let mut head = 0;
     while head < size {
@@ -43,11 +44,9 @@ fn start(n: usize, a: Junction, scratch: &mut [u16])
     ensures others { (w : ℕ) → 1 ≤ w → w ≤ n → (w ≢ a.0) → mark n scratch.new w ≡ 0 }
     ensures behind { KeptFrom (2 * n) scratch.old scratch.new }
 {
-    for i in 0..n {
-        scratch[n + i] = 0;
-    }
+    scratch[n..2 * n].fill(0);
     scratch[0] = a.0;
-    scratch[n + (a.0 as usize - 1)] = 1;
+    scratch[n + a.index()] = 1;
 }
 
 // Adds to the queue what the junction at `head` of it is joined to and was not reached before.
@@ -70,33 +69,13 @@ fn spread<P: ReadablePlan>(
     let n = plan.size() as usize;
     let u = Junction(scratch[head]);
     let mut count = size;
-    let mut last = v;
-    while let Some(w) = plan.next(u, last) {
-        let seat = n + (w.0 as usize - 1);
+    for w in neighbours_above(plan, u, v) {
+        let seat = n + w.index();
         if scratch[seat] == 0 && !plan.joined(v, w) {
             scratch[count] = w.0;
             scratch[seat] = head as u16 + 1;
             count += 1;
         }
-        last = w;
     }
     count
-}
-
-// The first index of the queue whose junction is joined to c.
-pub(crate) fn meeting<P: ReadablePlan>(
-    plan: &P,
-    c: Junction,
-    size: usize,
-    scratch: &[u16],
-) -> Option<usize>
-    requires { size ≤ length scratch.now }
-    ensures { Meets (P.meaning plan.now) c.0 size (queue scratch.now) result }
-{
-    for i in 0..size {
-        if plan.joined(Junction(scratch[i]), c) {
-            return Some(i);
-        }
-    }
-    None
 }

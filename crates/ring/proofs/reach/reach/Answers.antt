@@ -3,16 +3,6 @@ use Rattle.plan.specs.Plans.{Plan, Sound}
 use Rattle.ring.proofs.Queues.{queue_alone}
 use Rattle.ring.proofs.reach.reach.Goals as goal
 
-pub start-requires : goal.start-requires
-start-requires g c =
-    let p : Plan = g.P.ReadablePlan.meaning c.args.plan.now in
-    let s : Sound p = g.met.P.ReadablePlan.sound c.args.plan.now in
-    let i = s.inside c.args.a.0 (s.ends c.args.v.0 c.args.a.0 c.requires.above.1).1 in
-    record {
-      room = (c.size-n.ensures.few, omega (arith, c.requires.room, c.size-n.ensures.value));
-      inside = (i.0, omega (arith, i.1, c.size-n.ensures.value));
-    }
-
 pub loop-head-init : goal.loop-head-init
 loop-head-init g c =
     let p : Plan = g.P.ReadablePlan.meaning c.args.plan.now in
@@ -21,7 +11,7 @@ loop-head-init g c =
     let e : c.size-n.result ≡ p.size = c.size-n.ensures.value in
     let begun = c.start.ensures in (
       omega arith,
-      queue_alone p c.args.v.0 c.args.a.0 _ _ _ i.0 i.1 begun.first begun.first (rw e at begun.marked) (λ w x y ne. rw e at (begun.others w x (rw e y) ne)),
+      queue_alone p c.args.v.0 c.args.a.0 _ _ _ i.0 i.1 begun.first begun.first (rw e at begun.marked) (rw e at begun.others),
       λ k w l. absurd (omega arith),
       λ k d l. refl,
     )
