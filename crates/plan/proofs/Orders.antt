@@ -169,24 +169,6 @@ order_of n us h =
     at : (v : ℕ) → 1 ≤ v → v ≤ n → (i : ℕ) × (i < length us) × (get_or us i 0 ≡ v) → (i : ℕ) × (i < n) × (get_or us i 0 ≡ v)
     at v a b r = (r.0, omega (arith, r.1, long), r.2)
 
--- n entries, no two alike, with each of 1 to n among them
-pub ordered_from_all : (n : ℕ) (us : List ℕ) → length us ≡ n → ((i j : ℕ) → i < j → j < n → get_or us i 0 ≡ get_or us j 0 → ⊥) → ((v : ℕ) → 1 ≤ v → v ≤ n → (i : ℕ) × (i < n) × (get_or us i 0 ≡ v)) → ordered n us ≡ true
-ordered_from_all n us long once all =
-    and_from (eqb (length us) n) (each_once n us) (eq-eqb (length us) n long) (times-each_once n us one)
-  where
-    same : (i j : ℕ) → i < n → j < n → get_or us i 0 ≡ get_or us j 0 → j ≡ i
-    same i j a b e = go (cases_lt i j) (cases_lt j i)
-      where
-        go : (i < j) ⊎ (j ≤ i) → (j < i) ⊎ (i ≤ j) → j ≡ i
-        go (inl l) s = absurd (once i j l b e)
-        go (inr l) (inl k) = absurd (once j i k a (sym e))
-        go (inr l) (inr k) = omega arith
-
-    one : (v : ℕ) → 1 ≤ v → v ≤ n → times v us ≡ 1
-    one v a b =
-        let r : (i : ℕ) × (i < n) × (get_or us i 0 ≡ v) = all v a b in
-        one_index_times us r.0 v (omega (arith, r.1, long)) r.2 (λ j l e. same r.0 j r.1 (omega (arith, l, long)) (r.2 ∙ sym e))
-
 -- what no two indices share stands in the list once at most
 once_times : (us : List ℕ) → ((i j : ℕ) → i < j → j < length us → get_or us i 0 ≡ get_or us j 0 → ⊥) → (v : ℕ) → times v us ≤ 1
 once_times us once v = go (cases_lt 0 (times v us))

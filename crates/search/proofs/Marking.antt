@@ -1,6 +1,6 @@
 -- The label of a junction, one place further down.
-use Rattle.std.proofs.Common.{◌≡◌, ℕ, suc, ◌+◌, ◌<◌, ◌≤◌, Bool, true, false, cond, List, [], ◌∷◌, ◌++◌, length, get_or, drop, fold, refl, ap, ◌∙◌, add-one}
-use Rattle.std.proofs.lemmas.List.{drop_more, drop_all}
+use Rattle.std.proofs.Common.{◌≡◌, ℕ, suc, ◌+◌, ◌<◌, Bool, true, false, cond, List, [], ◌∷◌, ◌++◌, length, get_or, drop, fold, refl, ap, ◌∙◌, add-one}
+use Rattle.std.proofs.lemmas.List.{drop_more}
 use Rattle.search.specs.Rule.{marks, label}
 
 pub folded_append : {A B : Type 0} (f : B → A → B) (a : B) (xs ys : List A) → fold f a (xs ++ ys) ≡ fold f (fold f a xs) ys
@@ -8,9 +8,6 @@ folded_append f a [] ys = refl
 folded_append f a (x ∷ xs) ys = folded_append f (f a x) xs ys
 
 module _ {L : Type 0} (blank : L) (raised : L → ℕ → L) (joins : ℕ → ℕ → Bool) where
-  -- no place is given
-  pub label_none : (us : List ℕ) (p v : ℕ) → length us ≤ p → label blank raised joins us p v ≡ blank
-  label_none us p v h = ap (λ ws. fold raised blank (marks joins v (suc p) ws)) (drop_all p us h)
 
   -- the junctions of the places above p are all that counts
   pub label_same : (us ws : List ℕ) (p v : ℕ) → drop p us ≡ drop p ws → label blank raised joins us p v ≡ label blank raised joins ws p v
