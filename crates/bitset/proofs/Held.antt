@@ -1,11 +1,13 @@
 -- Sets of numbers in words: what a change of one word does, and what a search from a number on finds.
-use Rattle.std.proofs.Common.{◌≡◌, ℕ, ◌+◌, ◌-◌, ◌*◌, ◌/◌, ◌%◌, ◌^◌, ◌<◌, ◌≤◌, min, Bool, true, false, not, ◌&&◌, ◌||◌, eqb, ltb, ◌⊎◌, List, length, get_or, set, Some, None, sym, refl, ap, ◌∙◌, ap₂, inl, inr, arith, get_or-set_other, get_or-set_same}
+use Rattle.std.proofs.Common.{◌≡◌, ℕ, ◌+◌, ◌-◌, ◌*◌, ◌/◌, ◌%◌, ◌^◌, ◌<◌, ◌≤◌, Bool, true, false, not, ◌&&◌, ◌||◌, eqb, ltb, ◌⊎◌, List, length, get_or, set, take, drop, Some, None, sym, refl, ap, ◌∙◌, ap₂, inl, inr, arith, get_or-set_other, get_or-set_same}
 use lib.Bits.{bit_and, bit_or, and_mask}
 use lib.Count.{count_trailing_zeros}
 use borrow.Author.Numbers.{trailing_lt}
-use Rattle.std.specs.List.{between}
+use Rattle.std.specs.List.{between, position, position_or_len}
 use Rattle.std.proofs.lemmas.List.Edits.{get_or-between}
-use Rattle.std.proofs.lemmas.List.{get_or_past}
+use Rattle.std.proofs.lemmas.List.{get_or_past, get_or-drop, length-drop, take_rest}
+use Rattle.std.proofs.lemmas.List.Quantifiers.{position-Some}
+use Rattle.std.proofs.lemmas.List.Sums.{fails_before_first}
 use Rattle.std.proofs.lemmas.Nat.{one_shl, pow_below, shr_le}
 use Rattle.std.proofs.lemmas.Bool.{cases_eq, cases_lt, ne_eqb, eq-eqb, lt-ltb, le-ltb, both_ways}
 use Rattle.std.proofs.lemmas.Bool.Decides.{nat_tests}
@@ -144,6 +146,23 @@ remove_nothing ws i l = record { bits = λ j. go j (cases_eq j i); others = λ k
 
 -- ---- the next number held
 
+-- a word with a bit set
+abbrev pub filled : ℕ → Bool
+filled word = not (eqb word 0)
+
+filled-zero : (word : ℕ) → filled word ≡ false → word ≡ 0
+filled-zero word h = grind (arith, nat_tests)
+
+filled-some : (word : ℕ) → filled word ≡ true → 1 ≤ word
+filled-some word h = grind (arith, nat_tests)
+
+position-None : (p : ℕ → Bool) (xs : List ℕ) → position p xs ≡ None → (k : ℕ) → k < length xs → p (get_or xs k 0) ≡ false
+position-None p xs none k l = go (cases_lt (position_or_len p xs) (length xs))
+  where
+    go : (position_or_len p xs < length xs) ⊎ (length xs ≤ position_or_len p xs) → p (get_or xs k 0) ≡ false
+    go (inl a) = let found : Some (position_or_len p xs) ≡ None = rw (lt-ltb (position_or_len p xs) (length xs) a) at none in absurd (cc)
+    go (inr a) = fails_before_first p xs k 0 (omega arith)
+
 module _ (ws : List ℕ) (from : ℕ) where
   -- the word of `from`, with the bits of lower numbers shifted out
   abbrev rest_of_word : ℕ
@@ -195,33 +214,65 @@ module _ (ws : List ℕ) (from : ℕ) where
       let e : i ≡ from + (i - from) = omega arith in
       ap (holds ws) e ∙ (holds_from (i - from) (omega arith) ∙ (ap (λ x. bit x (i - from)) z ∙ bit_of_zero (i - from)))
 
-  -- no number from `from` on is held in the words before word k
-  module _ (k : ℕ) (none : (i : ℕ) → from ≤ i → i < 64 * k → holds ws i ≡ false) where
-    pub none_in_next : get_or ws k 0 ≡ 0 → (i : ℕ) → from ≤ i → i < 64 * (k + 1) → holds ws i ≡ false
-    none_in_next z i h l = go (cases_lt i (64 * k))
+  -- where the word of `from` has no bit left, the words behind it decide
+  module _ (zero : rest_of_word ≡ 0) where
+    none_before : (k : ℕ) → ((j : ℕ) → from / 64 < j → j < k → get_or ws j 0 ≡ 0) → (i : ℕ) → from ≤ i → i < 64 * k → holds ws i ≡ false
+    none_before k clear i h l = go (cases_lt i (64 * (from / 64 + 1)))
       where
-        go : (i < 64 * k) ⊎ (64 * k ≤ i) → holds ws i ≡ false
-        go (inl a) = none i h a
-        go (inr a) =
-            holds_in_word k (i - 64 * k) i (omega arith) (omega arith) ∙ (ap (λ x. bit x (i - 64 * k)) z ∙ bit_of_zero (i - 64 * k))
+        go : (i < 64 * (from / 64 + 1)) ⊎ (64 * (from / 64 + 1) ≤ i) → holds ws i ≡ false
+        go (inl a) = none_in_word zero i h a
+        go (inr a) = zero_word ws i (clear (i / 64) (omega arith) (omega arith))
 
-    pub next_in_next : from ≤ 64 * k → get_or ws k 0 < 2 ^ 64 → (get_or ws k 0 ≡ 0 → ⊥) → NextHeld ws from (Some (64 * k + count_trailing_zeros 64 (get_or ws k 0)))
-    next_in_next a f ne =
-        let l : count_trailing_zeros 64 (get_or ws k 0) < 64 = trailing_lt 64 (get_or ws k 0) (omega arith) f in (
-          omega arith,
-          holds_in_word k (count_trailing_zeros 64 (get_or ws k 0)) (64 * k + count_trailing_zeros 64 (get_or ws k 0)) l refl
-              ∙ bit-at_trailing 64 (get_or ws k 0) l,
-          λ j h b. before j h b l (cases_lt j (64 * k)),
-        )
-      where
-        before : (j : ℕ) → from ≤ j → j < 64 * k + count_trailing_zeros 64 (get_or ws k 0) → count_trailing_zeros 64 (get_or ws k 0) < 64 → (j < 64 * k) ⊎ (64 * k ≤ j) → holds ws j ≡ false
-        before j h b l (inl p) = none j h p
-        before j h b l (inr p) =
-            holds_in_word k (j - 64 * k) j (omega arith) (omega arith) ∙ bit_below_trailing 64 (get_or ws k 0) (j - 64 * k) (omega arith)
+    -- the words behind are 0 before the j-th of them
+    clear_behind : (j : ℕ) → ((i : ℕ) → i < j → filled (get_or (drop (from / 64 + 1) ws) i 0) ≡ false) → (k : ℕ) → from / 64 < k → k < from / 64 + 1 + j → get_or ws k 0 ≡ 0
+    clear_behind j clear k a b =
+        let e : from / 64 + 1 + (k - (from / 64 + 1)) ≡ k = omega arith in
+        let z : get_or (drop (from / 64 + 1) ws) (k - (from / 64 + 1)) 0 ≡ 0 = filled-zero (get_or (drop (from / 64 + 1) ws) (k - (from / 64 + 1)) 0) (clear (k - (from / 64 + 1)) (omega arith)) in
+        ap (λ n. get_or ws n 0) (sym e) ∙ (sym (get_or-drop (from / 64 + 1) ws (k - (from / 64 + 1)) 0) ∙ z)
 
-    pub next-none : min (length ws) (2 ^ 58) ≤ k → NextHeld ws from None
-    next-none l i h f = go (cases_lt i (64 * k))
+    -- the words behind, as `&words[..]` has them
+    abbrev rest : List ℕ
+    rest = take (length ws - (from / 64 + 1)) (drop (from / 64 + 1) ws)
+
+    pub none_behind : None ≡ position filled rest → NextHeld ws from None
+    none_behind none i h f = go (cases_lt (i / 64) (length ws))
       where
-        go : (i < 64 * k) ⊎ (64 * k ≤ i) → holds ws i ≡ false
-        go (inl a) = none i h a
-        go (inr a) = holds_past ws i (omega arith)
+        clear : (k : ℕ) → from / 64 < k → k < from / 64 + 1 + length (drop (from / 64 + 1) ws) → get_or ws k 0 ≡ 0
+        clear = clear_behind (length (drop (from / 64 + 1) ws)) (position-None filled (drop (from / 64 + 1) ws) (sym (rw take_rest at none)))
+
+        go : (i / 64 < length ws) ⊎ (length ws ≤ i / 64) → holds ws i ≡ false
+        go (inl l) = none_before (i / 64 + 1) (λ j a b. clear j a (omega (arith, length-drop (from / 64 + 1) ws))) i h (omega arith)
+        go (inr l) = holds_past ws i l
+
+    module _ (j : ℕ) (first : Some j ≡ position filled rest) where
+      at_first : (j < length (drop (from / 64 + 1) ws)) × (filled (get_or (drop (from / 64 + 1) ws) j 0) ≡ true) × ((k : ℕ) → k < j → filled (get_or (drop (from / 64 + 1) ws) k 0) ≡ false)
+      at_first = position-Some filled (drop (from / 64 + 1) ws) j 0 (sym (rw take_rest at first))
+
+      abbrev word : ℕ
+      word = from / 64 + 1 + j
+
+      none_ahead : (i : ℕ) → from ≤ i → i < 64 * word → holds ws i ≡ false
+      none_ahead = none_before word (clear_behind j at_first.2)
+
+      -- its numbers are past 64 bits
+      pub next_far : (word * 64 < 2 ^ 64 → ⊥) → NextHeld ws from None
+      next_far far i h f = none_ahead i h (omega arith)
+
+      pub trailing_few : get_or ws word 0 < 2 ^ 64 → count_trailing_zeros 64 (get_or ws word 0) < 64
+      trailing_few f =
+          let some : filled (get_or ws word 0) ≡ true = ap filled (sym (get_or-drop (from / 64 + 1) ws j 0)) ∙ at_first.1 in
+          trailing_lt 64 (get_or ws word 0) (filled-some (get_or ws word 0) some) f
+
+      pub next_behind : get_or ws word 0 < 2 ^ 64 → NextHeld ws from (Some (word * 64 + count_trailing_zeros 64 (get_or ws word 0)))
+      next_behind f =
+          let l : count_trailing_zeros 64 (get_or ws word 0) < 64 = trailing_few f in (
+            omega arith,
+            holds_in_word word (count_trailing_zeros 64 (get_or ws word 0)) (word * 64 + count_trailing_zeros 64 (get_or ws word 0)) l (omega arith)
+                ∙ bit-at_trailing 64 (get_or ws word 0) l,
+            λ i h b. before i h b l (cases_lt i (64 * word)),
+          )
+        where
+          before : (i : ℕ) → from ≤ i → i < word * 64 + count_trailing_zeros 64 (get_or ws word 0) → count_trailing_zeros 64 (get_or ws word 0) < 64 → (i < 64 * word) ⊎ (64 * word ≤ i) → holds ws i ≡ false
+          before i h b l (inl p) = none_ahead i h p
+          before i h b l (inr p) =
+              holds_in_word word (i - 64 * word) i (omega arith) (omega arith) ∙ bit_below_trailing 64 (get_or ws word 0) (i - 64 * word) (omega arith)
