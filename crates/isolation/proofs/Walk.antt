@@ -1,5 +1,5 @@
 -- A walk over the neighbours below, past those that are shut.
-use Rattle.std.proofs.Common.{◌≡◌, ℕ, ◌-◌, ◌<◌, ◌≤◌, Bool, true, false, ◌⊎◌, Some, None, ap, ◌∙◌, inl, inr, arith}
+use Rattle.std.proofs.Common.{◌≡◌, ℕ, ◌<◌, ◌≤◌, Bool, true, false, ◌⊎◌, Some, None, ap, ◌∙◌, inl, inr, arith}
 use Rattle.std.proofs.lemmas.Bool.{cases_eq, cases_lt}
 use Rattle.plan.specs.Plans.{Plan, Sound, NextNeighbour}
 use Rattle.plan.specs.declared.number.Junction.{Junction}
@@ -10,6 +10,9 @@ use Rattle.isolation.specs.Seen.{shut_hides_right, none_below, open_ends_show}
 pub record Scanned (p : Plan) (o : ℕ → Bool) (v w last : ℕ) : Type 0 where
   pub reached : w ≤ last
   pub none : (x : ℕ) → w < x → x ≤ last → (through p o).joins v x ≡ false
+
+pub scan_begins : (p : Plan) (o : ℕ → Bool) (v w : ℕ) → Scanned p o v w w
+scan_begins p o v w = record { reached = omega arith; none = λ x a b. absurd (omega arith) }
 
 module _ (p : Plan) (o : ℕ → Bool) (v w last : ℕ) (seen : Scanned p o v w last) where
   before : (u : Junction) → NextNeighbour p v last (Some u) → (x : ℕ) → w < x → x < u.0 → (through p o).joins v x ≡ false
@@ -35,6 +38,3 @@ module _ (p : Plan) (o : ℕ → Bool) (v w last : ℕ) (seen : Scanned p o v w 
       go : (last < u) ⊎ (u ≤ last) → (through p o).joins v u ≡ false
       go (inl k) = none_below p o v u (h u k)
       go (inr k) = seen.none u l k
-
-pub scan_falls : (p : Plan) (v last : ℕ) (u : Junction) → Sound p → NextNeighbour p v last (Some u) → p.size - u.0 < p.size - last
-scan_falls p v last u s h = omega (arith, h.0, s.inside u.0 (s.ends v u.0 h.1).1)

@@ -3,11 +3,11 @@ ghost use Rattle.std.specs.Prelude.{◌≡◌, ℕ, ◌≤◌, true, false};
 ghost use Rattle.plan.specs.Refusals.{heard, after};
 ghost use Rattle.plan.specs.Registers.{Joins, Cuts, with_pipe, without_pipe};
 ghost use Rattle.isolation.specs.Layers.{through, marked, shut_verdict, open_verdict, isolates_pair};
-ghost use Rattle.isolation.specs.States.{opens};
+ghost use Rattle.isolation.specs.States.{opens, is_open, put_verdict};
 ghost use Rattle.isolation.specs.Seen.{through_sound};
 
 use crate::state::{State, States};
-use plan::{Junction, ReadablePlan, Refusal, Register};
+use plan::{Junction, ReadablePlan, Refusal, Register, check_ends, neighbours_above};
 
 /// A register with a table of states above it. A junction is in service through the layer when it
 /// is in service below and open here; its pipes are those below with both ends in service through
@@ -42,11 +42,8 @@ impl<R: Register> Isolation<R> {
     fn isolates(&self, v: Junction, w: Junction) -> bool
         ensures { result ≡ isolates_pair (R.ReadablePlan.meaning self.now.below) (opens self.now.states.table) v.0 w.0 }
     {
-        let n = self.below.size();
-        if v.0 < 1 || v.0 > n || w.0 < 1 || w.0 > n || v.0 == w.0 {
-            return false;
-        }
-        !self.states.is_open(v) || !self.states.is_open(w)
+        check_ends(self.below.size(), v, w).is_ok()
+            && (!self.states.is_open(v) || !self.states.is_open(w))
     }
 
     /// Shuts junction v: it is out of service until it is opened. Turned down by 2, then 15.
@@ -55,14 +52,7 @@ impl<R: Register> Isolation<R> {
         ensures register { self.new.below ≡ self.old.below }
         ensures states { (u : ℕ) → opens self.new.states.table u ≡ after (heard result) (marked (opens self.old.states.table) v.0 false u) (opens self.old.states.table u) }
     {
-        if v.0 < 1 || v.0 > self.below.size() {
-            return Err(Refusal::NoJunction);
-        }
-        if !self.states.is_open(v) {
-            return Err(Refusal::ShutAlready);
-        }
-        self.states.put(v, State::Shut);
-        Ok(())
+        self.put(v, State::Shut)
     }
 
     /// Opens junction v again. Turned down by 2, then 16.
@@ -71,13 +61,23 @@ impl<R: Register> Isolation<R> {
         ensures register { self.new.below ≡ self.old.below }
         ensures states { (u : ℕ) → opens self.new.states.table u ≡ after (heard result) (marked (opens self.old.states.table) v.0 true u) (opens self.old.states.table u) }
     {
-        if v.0 < 1 || v.0 > self.below.size() {
+        self.put(v, State::Open)
+    }
+
+    // Puts junction v into a state. Turned down by 2, then by 15 or 16 where it has that state.
+    fn put(&mut self, v: Junction, state: State) -> Result<(), Refusal>
+        ensures answer { heard result ≡ put_verdict (R.ReadablePlan.meaning self.old.below).size (opens self.old.states.table) v.0 state }
+        ensures register { self.new.below ≡ self.old.below }
+        ensures states { (u : ℕ) → opens self.new.states.table u ≡ after (heard result) (marked (opens self.old.states.table) v.0 (is_open state) u) (opens self.old.states.table u) }
+    {
+        if !v.is_within(self.below.size()) {
             return Err(Refusal::NoJunction);
         }
-        if self.states.is_open(v) {
-            return Err(Refusal::NotShut);
+        match (state, self.states.is_open(v)) {
+            (State::Shut, false) => return Err(Refusal::ShutAlready),
+            (State::Open, true) => return Err(Refusal::NotShut),
+            (State::Shut, true) | (State::Open, false) => self.states.put(v, state),
         }
-        self.states.put(v, State::Open);
         Ok(())
     }
 }
@@ -103,13 +103,11 @@ impl<R: Register> ReadablePlan for Isolation<R> {
         if !self.states.is_open(v) {
             return None;
         }
-        let mut last = w;
-        while let Some(u) = self.below.next(v, last) {
+        for u in neighbours_above(&self.below, v, w) {
             let seen = self.states.is_open(u);
             if seen {
                 return Some(u);
             }
-            last = u;
         }
         None
     }

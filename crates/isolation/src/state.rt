@@ -7,7 +7,7 @@ ghost use Rattle.isolation.specs.States.{opens, is_open};
 use plan::Junction;
 
 /// Whether a junction is open to the layer above a register, or shut by it.
-#[derive(Clone, Copy)]
+#[derive(Clone, Copy, PartialEq, Eq, Debug)]
 pub enum State {
     Open,
     Shut,
@@ -33,22 +33,15 @@ impl States {
     pub fn is_open(&self, v: Junction) -> bool
         ensures { result ≡ opens self.now.table v.0 }
     {
-        if v.0 < 1 || v.0 > 512 {
-            return true;
-        }
-        match self.table[v.0 as usize - 1] {
-            State::Open => true,
-            State::Shut => false,
-        }
+        !v.is_within(512) || self.table[v.index()] == State::Open
     }
 
     /// Changes the one entry of junction v; a number outside 1 to 512 changes nothing.
     pub fn put(&mut self, v: Junction, state: State)
         ensures { (u : ℕ) → opens self.new.table u ≡ (if within 512 v.0 then marked (opens self.old.table) v.0 (is_open state) u else opens self.old.table u) }
     {
-        if v.0 < 1 || v.0 > 512 {
-            return;
+        if v.is_within(512) {
+            self.table[v.index()] = state;
         }
-        self.table[v.0 as usize - 1] = state;
     }
 }

@@ -4,3 +4,4 @@ pub mod Numbers
 pub mod Orders
 pub mod Pipes
 pub mod Verdicts
+pub mod Walks

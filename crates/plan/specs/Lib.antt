@@ -3,3 +3,4 @@ pub mod Orders
 pub mod Plans
 pub mod Refusals
 pub mod Registers
+pub mod Walks

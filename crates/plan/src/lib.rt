@@ -3,14 +3,18 @@
 
 #![tactic(auto)]
 
+mod ends;
 mod number;
 mod readable;
 mod refusal;
 mod register;
 mod turned_down;
+mod walk;
 
+pub use ends::check_ends;
 pub use number::{Junction, Place};
 pub use readable::ReadablePlan;
 pub use refusal::Refusal;
 pub use register::Register;
 pub use turned_down::TurnedDown;
+pub use walk::{Walk, neighbours, neighbours_above};

@@ -1,8 +1,10 @@
 //! Why a call is turned down.
-ghost use Rattle.std.specs.Prelude.{◌≡◌};
+ghost use Rattle.std.specs.Prelude.{◌≡◌, decimal, Some};
 ghost use Rattle.plan.specs.Refusals.{number};
 
 use crate::number::Junction;
+use std::error::Error;
+use std::fmt;
 
 /// The refusals, one for each stated number (docs/REFUSALS.md).
 #[derive(Clone, Copy, PartialEq, Eq, Debug)]
@@ -73,3 +75,15 @@ impl Refusal {
         }
     }
 }
+
+/// A refusal is shown by its stated number.
+impl fmt::Display for Refusal {
+    ghost output = { λ r. Some (decimal (number r)) };
+
+    fn fmt<W: fmt::Write>(&self, f: &mut fmt::Formatter<W>) -> fmt::Result {
+        let number = self.code();
+        write!(f, "{number}")
+    }
+}
+
+impl Error for Refusal {}
