@@ -2,7 +2,7 @@
 ghost use Rattle.label.specs.Counts.{no_count, counted, compared_counts, CountStands};
 ghost use Rattle.label.specs.Counted.{counting_lawful};
 
-use crate::kind::Kind;
+use crate::kind::{Kind, is_mark};
 use plan::Place;
 use std::cmp::Ordering;
 
@@ -11,7 +11,7 @@ use std::cmp::Ordering;
 pub struct Counting;
 
 /// A number of marks, 0 to 512.
-#[derive(Clone, Copy)]
+#[derive(Clone, Copy, PartialEq, Eq, PartialOrd, Ord, Debug)]
 pub struct Count(pub u16);
 
 impl Kind for Counting {
@@ -32,7 +32,7 @@ impl Kind for Counting {
     }
 
     fn raise(&self, label: Count, mark: Place) -> Count {
-        if 1 <= mark.0 && mark.0 <= 512 && label.0 < 512 {
+        if is_mark(mark) && label.0 < 512 {
             Count(label.0 + 1)
         } else {
             label
@@ -40,12 +40,6 @@ impl Kind for Counting {
     }
 
     fn compare(&self, a: &Count, b: &Count) -> Ordering {
-        if a.0 < b.0 {
-            Ordering::Less
-        } else if a.0 == b.0 {
-            Ordering::Equal
-        } else {
-            Ordering::Greater
-        }
+        a.cmp(b)
     }
 }

@@ -6,26 +6,18 @@ use crate::kind::Kind;
 use plan::Place;
 use std::cmp::Ordering;
 
-/// One of two kinds: the labels of the kind that is not chosen stand for nothing.
+/// One of two kinds, and a label of one of two kinds: the labels of the kind that is not chosen
+/// stand for nothing.
 #[derive(Clone, Copy)]
 pub enum Either<A, B> {
-    /// The first kind is chosen.
+    /// The first kind, or a label of it.
     First(A),
-    /// The second kind is chosen.
+    /// The second kind, or a label of it.
     Second(B),
 }
 
-/// A label of one of two kinds.
-#[derive(Clone, Copy)]
-pub enum EitherLabel<X, Y> {
-    /// A label of the first kind.
-    First(X),
-    /// A label of the second kind.
-    Second(Y),
-}
-
 impl<A: Kind, B: Kind> Kind for Either<A, B> {
-    type Label = EitherLabel<A::Label, B::Label>;
+    type Label = Either<A::Label, B::Label>;
 
     ghost blank = { blank_either A.Kind.blank B.Kind.blank };
 
@@ -37,41 +29,33 @@ impl<A: Kind, B: Kind> Kind for Either<A, B> {
 
     ghost lawful = { λ k. either_lawful A.Kind.blank B.Kind.blank A.Kind.raised B.Kind.raised A.Kind.compared B.Kind.compared A.Kind.stands B.Kind.stands A.Kind.lawful B.Kind.lawful k };
 
-    fn empty(&self) -> EitherLabel<A::Label, B::Label> {
+    fn empty(&self) -> Either<A::Label, B::Label> {
         match self {
-            Either::First(a) => EitherLabel::First(a.empty()),
-            Either::Second(b) => EitherLabel::Second(b.empty()),
+            Either::First(a) => Either::First(a.empty()),
+            Either::Second(b) => Either::Second(b.empty()),
         }
     }
 
-    fn raise(
-        &self,
-        label: EitherLabel<A::Label, B::Label>,
-        mark: Place,
-    ) -> EitherLabel<A::Label, B::Label> {
+    fn raise(&self, label: Either<A::Label, B::Label>, mark: Place) -> Either<A::Label, B::Label> {
         match (self, label) {
-            (Either::First(a), EitherLabel::First(x)) => EitherLabel::First(a.raise(x, mark)),
-            (Either::Second(b), EitherLabel::Second(y)) => EitherLabel::Second(b.raise(y, mark)),
+            (Either::First(a), Either::First(x)) => Either::First(a.raise(x, mark)),
+            (Either::Second(b), Either::Second(y)) => Either::Second(b.raise(y, mark)),
             (_, other) => other,
         }
     }
 
-    fn compare(
-        &self,
-        x: &EitherLabel<A::Label, B::Label>,
-        y: &EitherLabel<A::Label, B::Label>,
-    ) -> Ordering {
+    fn compare(&self, x: &Either<A::Label, B::Label>, y: &Either<A::Label, B::Label>) -> Ordering {
         match (x, y) {
-            (EitherLabel::First(p), EitherLabel::First(q)) => match self {
+            (Either::First(p), Either::First(q)) => match self {
                 Either::First(a) => a.compare(p, q),
                 Either::Second(_) => Ordering::Equal,
             },
-            (EitherLabel::Second(p), EitherLabel::Second(q)) => match self {
+            (Either::Second(p), Either::Second(q)) => match self {
                 Either::First(_) => Ordering::Equal,
                 Either::Second(b) => b.compare(p, q),
             },
-            (EitherLabel::First(_), EitherLabel::Second(_)) => Ordering::Less,
-            (EitherLabel::Second(_), EitherLabel::First(_)) => Ordering::Greater,
+            (Either::First(_), Either::Second(_)) => Ordering::Less,
+            (Either::Second(_), Either::First(_)) => Ordering::Greater,
         }
     }
 }

@@ -2,6 +2,7 @@
 ghost use Rattle.std.specs.Prelude.{◌≡◌, ℕ, List};
 ghost use Rattle.std.specs.declared.cmp.Ordering.{Ordering};
 ghost use Rattle.label.specs.Laws.{Laws};
+ghost use Rattle.label.specs.Marks as marks;
 
 use plan::Place;
 use std::cmp::Ordering;
@@ -34,4 +35,11 @@ pub trait Kind {
         ensures { result ≡ compared self.now a.now b.now };
 
     ghost lawful: { (k : Self) → Laws (blank k) (raised k) (compared k) (stands k) };
+}
+
+/// Whether a place is a mark, 1 to 512.
+pub(crate) fn is_mark(place: Place) -> bool
+    ensures { result ≡ marks.is_mark place.0 }
+{
+    (1..=512).contains(&place.0)
 }

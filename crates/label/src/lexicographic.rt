@@ -5,7 +5,7 @@ ghost use Rattle.label.specs.Marks.{is_mark};
 ghost use Rattle.label.specs.Sets.{no_marks, with_mark, marked, compared_sets, Exceeds, SetStands};
 ghost use Rattle.label.specs.LexLaws.{lexicographic_lawful};
 
-use crate::kind::Kind;
+use crate::kind::{Kind, is_mark};
 use plan::Place;
 use std::cmp::Ordering;
 
@@ -27,6 +27,8 @@ impl MarkSet {
         ensures value { result ≡ compared_sets self.now other.now }
         ensures greater { MatchOrdering result (Exceeds (marked other.now) (marked self.now)) ((m : ℕ) → marked self.now m ≡ marked other.now m) (Exceeds (marked self.now) (marked other.now)) }
     {
+        // By index: a proof knows that a word fits 64 bits, which `greater` rests on, where the word is
+        // read here, and not where `iter().rev().cmp(..)` reads it.
         for k in (0..8).rev() {
             let mine = self.words[k];
             let theirs = other.words[k];
@@ -63,8 +65,8 @@ impl Kind for Lexicographic {
         ensures marks { (m : ℕ) → marked result m ≡ (marked label m || (is_mark mark.0 && mark.0 == m)) }
     {
         let mut words = label.words;
-        if 1 <= mark.0 && mark.0 <= 512 {
-            let i = (mark.0 - 1) as usize;
+        if is_mark(mark) {
+            let i = usize::from(mark.0 - 1);
             words[i / 64] |= 1 << (i % 64);
         }
         MarkSet { words }

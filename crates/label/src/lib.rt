@@ -11,6 +11,6 @@ mod lexicographic;
 
 pub use apart::empty_against_raised;
 pub use counting::{Count, Counting};
-pub use either::{Either, EitherLabel};
+pub use either::Either;
 pub use kind::Kind;
 pub use lexicographic::{Lexicographic, MarkSet};

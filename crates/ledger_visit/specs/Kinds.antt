@@ -7,7 +7,6 @@ use Rattle.label.specs.Sets.{no_marks, with_mark, compared_sets}
 use Rattle.label.specs.declared.counting.Count.{Count}
 use Rattle.label.specs.declared.counting.Counting.{Counting}
 use Rattle.label.specs.declared.either.Either.{Either}
-use Rattle.label.specs.declared.either.EitherLabel.{EitherLabel}
 use Rattle.label.specs.declared.lexicographic.Lexicographic.{Lexicographic}
 use Rattle.label.specs.declared.lexicographic.MarkSet.{MarkSet}
 
@@ -16,7 +15,7 @@ abbrev pub SheetKind : Type 0
 SheetKind = Either Lexicographic Counting
 
 abbrev pub SheetLabel : Type 0
-SheetLabel = EitherLabel MarkSet Count
+SheetLabel = Either MarkSet Count
 
 -- the empty label of a kind, a label raised by a mark, and the comparison
 abbrev pub empty_label : SheetKind → SheetLabel

@@ -9,7 +9,7 @@ ghost use Rattle.ledger_visit.specs.Visits.{with_set, Visit};
 
 use crate::maker::Maker;
 use calls::{Answer, Call, Listener, run};
-use label::{Count, Counting, Either, EitherLabel, Lexicographic, MarkSet};
+use label::{Count, Counting, Either, Lexicographic, MarkSet};
 use plan::{Junction, Refusal, Register, TurnedDown};
 use set::Set;
 use sheet::{Call as Spelled, next_line, read_call};
@@ -21,7 +21,7 @@ pub const SHEET_LIMIT: usize = 16384;
 pub type KindOfLabel = Either<Lexicographic, Counting>;
 
 /// A label of either kind.
-pub type LabelOfVisit = EitherLabel<MarkSet, Count>;
+pub type LabelOfVisit = Either<MarkSet, Count>;
 
 // A set that was made, with what is left of the sheet behind its line, or the sheet's end.
 enum Opened<'a, R> {

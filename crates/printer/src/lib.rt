@@ -7,7 +7,7 @@ ghost use Rattle.calls.specs.Heard.{Heard};
 
 use calls::{Answer, Listener};
 use edge::{filled, read_input};
-use label::{Count, EitherLabel};
+use label::{Count, Either};
 use ledger_visit::{Listing, Maker, SHEET_LIMIT, visit};
 use plan::Junction;
 use std::io;
@@ -50,7 +50,7 @@ pub fn print_visit<M: Maker + Drop>(rt: &HostRuntime, maker: M) -> io::Result<()
     let mut places = filled(heap, Junction(0), 512)?;
     let mut ring = filled(heap, Junction(0), 512)?;
     let mut rows = filled(heap, 0u64, 8 * 512)?;
-    let mut labels = filled(heap, EitherLabel::Second(Count(0)), 512)?;
+    let mut labels = filled(heap, Either::Second(Count(0)), 512)?;
     let mut scratch = filled(heap, 0u16, 2 * 512)?;
     let mut printer = Printer { rt };
     visit(

@@ -1,7 +1,7 @@
 -- The search by one of two kinds is the search by that kind.
 use Rattle.std.proofs.Common.{◌≡◌, ℕ, suc, List, [], ◌∷◌, get_or, drop, fold, Ordering, refl}
 use Rattle.label.specs.declared.either.Either.TheVariants as kind
-use Rattle.label.specs.declared.either.EitherLabel.TheVariants.{First, Second}
+use Rattle.label.specs.declared.either.Either.TheVariants.{First, Second}
 use Rattle.label.specs.Eithers.{raised_either}
 use Rattle.search.specs.Rule.{marks}
 use Rattle.search.specs.Theorems.{ByFirst, BySecond}

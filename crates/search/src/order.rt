@@ -9,8 +9,7 @@ ghost use Rattle.search.specs.Rule.{outranks};
 ghost use Rattle.search.specs.Working.{at, Chosen, RaisedBy};
 
 use label::Kind;
-use plan::{Junction, Place, ReadablePlan, Refusal};
-use std::cmp::Ordering;
+use plan::{Junction, Place, ReadablePlan, Refusal, neighbours};
 
 /// Puts every junction at the place of its number, with an empty label.
 fn start<K: Kind>(
@@ -27,6 +26,7 @@ fn start<K: Kind>(
     ensures labelled { (i : ℕ) (d : K.Label) → i < n → slice_index_or labels.new i d ≡ K.Kind.blank kind.now }
     ensures behind { KeptFrom n places.old places.new × KeptFrom n labels.old labels.new × KeptFrom n scratch.old scratch.new }
 {
+    // By index, since three tables are written at each.
     for i in 0..n {
         places[i] = Junction((i + 1) as u16);
         labels[i] = kind.empty();
@@ -40,13 +40,9 @@ fn is_before<K: Kind>(kind: &K, u: Junction, v: Junction, labels: &[K::Label]) -
     requires right { (1 ≤ v.0) × (v.0 ≤ length labels.now) }
     ensures { (d : K.Label) → result ≡ outranks (K.Kind.compared kind.now (slice_index_or labels.now (v.0 - 1) d) (slice_index_or labels.now (u.0 - 1) d)) u.0 v.0 }
 {
-    let mine = &labels[(u.0 - 1) as usize];
-    let other = &labels[(v.0 - 1) as usize];
-    match kind.compare(other, mine) {
-        Ordering::Less => true,
-        Ordering::Equal => u.0 < v.0,
-        Ordering::Greater => false,
-    }
+    kind.compare(&labels[v.index()], &labels[u.index()])
+        .then(u.cmp(&v))
+        .is_lt()
 }
 
 /// The index, up to p, of the junction that outranks the others up to there.
@@ -74,11 +70,11 @@ fn exchange(places: &mut [Junction], scratch: &mut [u16], a: usize, p: usize)
     ensures places { places.new ≡ swap places.old a p }
     ensures scratch { scratch.new ≡ slice_set (slice_set scratch.old (at places.old p - 1) (a + 1)) (at places.old a - 1) (p + 1) }
 {
-    let rising = places[a].0;
-    let falling = places[p].0;
+    let rising = places[a];
+    let falling = places[p];
     places.swap(a, p);
-    scratch[(falling - 1) as usize] = (a + 1) as u16;
-    scratch[(rising - 1) as usize] = (p + 1) as u16;
+    scratch[falling.index()] = (a + 1) as u16;
+    scratch[rising.index()] = (p + 1) as u16;
 }
 
 /// Raises the labels of u's neighbours of lower places by the place that u is given.
@@ -93,13 +89,11 @@ fn raise_neighbours<P: ReadablePlan, K: Kind>(
     requires room { ((P.ReadablePlan.meaning plan.now).size ≤ length labels.old) × ((P.ReadablePlan.meaning plan.now).size ≤ length scratch.now) }
     ensures { RaisedBy (K.Kind.raised kind.now) (P.ReadablePlan.meaning plan.now).joins u.0 place.0 (P.ReadablePlan.meaning plan.now).size scratch.now labels.old labels.new }
 {
-    let mut last = Junction(0);
-    while let Some(v) = plan.next(u, last) {
-        let i = (v.0 - 1) as usize;
+    for v in neighbours(plan, u) {
+        let i = v.index();
         if scratch[i] < place.0 {
             labels[i] = kind.raise(labels[i], place);
         }
-        last = v;
     }
 }
 

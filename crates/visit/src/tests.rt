@@ -1,7 +1,7 @@
 use crate::{Answer, Listener, Listing, Maker, visit};
 use bits::BitRegister;
 use edge::filled;
-use label::{Count, EitherLabel};
+use label::{Count, Either};
 use plan::{Junction, Refusal};
 use std::alloc::{AllocError, Global};
 use std::test::Fail;
@@ -67,7 +67,7 @@ fn visits_line_by_line(rt: HostRuntime) -> Result<(), Fail> {
     let mut places = filled(heap, Junction(0), 4)?;
     let mut ring = filled(heap, Junction(0), 4)?;
     let mut rows = filled(heap, 0, 32)?;
-    let mut labels = filled(heap, EitherLabel::Second(Count(0)), 4)?;
+    let mut labels = filled(heap, Either::Second(Count(0)), 4)?;
     let mut scratch = filled(heap, 0, 8)?;
     let heard = visit(
         sheet.as_bytes(),
