@@ -7,7 +7,8 @@ use Rattle.plan.specs.Registers.{same_pair}
 use Rattle.plan.specs.declared.number.Junction.{Junction}
 use Rattle.plan.proofs.Counts.{pairs_same}
 use Rattle.plan.proofs.Pipes.{pairs_added}
-use Rattle.elimination.specs.Steps.{found, known, Joins, Table, NextIn, takes, taken, TakesOver, Eliminates}
+use Rattle.pairs.specs.Rows.{NextIn}
+use Rattle.elimination.specs.Steps.{found, known, Joins, Table, takes, taken, TakesOver, Eliminates}
 use Rattle.elimination.proofs.Neighbours.{found_parts, known_inside}
 use Rattle.elimination.proofs.Takeover.{takes_parts, takes_from, taken_cases}
 

@@ -2,7 +2,7 @@
 ghost use Rattle.std.specs.Prelude.{◌≡◌, suc, ◌-◌, ◌≤◌};
 ghost use Rattle.plan.specs.Plans.{count, pairs};
 
-use plan::{Junction, ReadablePlan};
+use plan::{Junction, ReadablePlan, neighbours};
 
 // How many neighbours of w have a number below w.
 fn neighbours_below<P: ReadablePlan>(plan: &P, w: Junction) -> u32
@@ -10,13 +10,11 @@ fn neighbours_below<P: ReadablePlan>(plan: &P, w: Junction) -> u32
     ensures { result ≡ count (λ v. (P.meaning plan.now).joins (suc v) w.0) (w.0 - 1) }
 {
     let mut found = 0;
-    let mut last = Junction(0);
-    while let Some(v) = plan.next(w, last) {
-        if v.0 > w.0 {
+    for v in neighbours(plan, w) {
+        if v > w {
             break;
         }
         found += 1;
-        last = v;
     }
     found
 }
@@ -26,7 +24,7 @@ pub fn pipes<P: ReadablePlan>(plan: &P) -> u32
     ensures { result ≡ pairs (P.meaning plan.now).joins (P.meaning plan.now).size }
 {
     let mut found = 0;
-    for w in 1..plan.size() + 1 {
+    for w in 1..=plan.size() {
         found += neighbours_below(plan, Junction(w));
     }
     found
