@@ -23,6 +23,7 @@ fn neighbours_below<P: ReadablePlan>(plan: &P, w: Junction) -> u32
 pub fn pipes<P: ReadablePlan>(plan: &P) -> u32
     ensures { result ≡ pairs (P.meaning plan.now).joins (P.meaning plan.now).size }
 {
+    // A loop: the proof of `map` and `sum` over the range did not close.
     let mut found = 0;
     for w in 1..=plan.size() {
         found += neighbours_below(plan, Junction(w));
