@@ -9,7 +9,7 @@ use Rattle.plan.proofs.Counts.{pairs-none}
 use Rattle.plan.proofs.Memory.{items_refilled}
 use Rattle.bits.specs.Making.{new_verdict}
 use Rattle.bits.specs.Rows.{joined}
-use Rattle.bits.proofs.Cells.{joined-blank}
+use Rattle.bits.proofs.Marks.{joined-blank}
 
 -- n * n - n is even
 triangle : (n : ℕ) → (k : ℕ) × (2 * k + n ≡ n * n)

@@ -8,7 +8,7 @@ use Rattle.plan.specs.declared.number.Junction.{Junction}
 use Rattle.plan.proofs.Pipes.{within_parts}
 use Rattle.pairs.specs.Rows.{marked, NextIn}
 use Rattle.bits.specs.Rows.{joined, kept}
-use Rattle.bits.proofs.Cells.{joined-mark}
+use Rattle.bits.proofs.Marks.{joined-mark}
 
 module _ (n : ℕ) (ws : List ℕ) (v w : ℕ) (few : n ≤ 512) (v-in : within n v ≡ true) where
   joined_by_row : (u : ℕ) → within n u ≡ true → joined n ws v u ≡ marked ws v u

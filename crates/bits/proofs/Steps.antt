@@ -12,7 +12,7 @@ use Rattle.bitset.specs.Bits.{holds}
 use Rattle.bits.specs.declared.register.BitRegister.{BitRegister}
 use Rattle.bits.specs.Making.{plan_of}
 use Rattle.bits.specs.Rows.{joined, kept}
-use Rattle.bits.proofs.Cells.{joined_changed}
+use Rattle.bits.proofs.Marks.{joined_changed}
 use Rattle.pairs.specs.Rows.{number, has_row, marked, Marks, Unmarks}
 use Rattle.pairs.proofs.Marking.{has_row_from}
 use Rattle.plan.proofs.Memory.{items_refilled}

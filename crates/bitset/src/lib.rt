@@ -24,6 +24,7 @@ pub fn contains(words: &[u64], i: usize) -> bool
 pub fn insert(words: &mut [u64], i: usize)
     ensures { Inserted words.old i words.new }
 {
+    // By index: of what is written through `get_mut` no proof learns anything.
     let word = i / 64;
     if word < words.len() {
         words[word] |= 1 << (i % 64);

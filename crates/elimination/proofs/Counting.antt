@@ -1,5 +1,5 @@
 -- Counting the neighbours of a junction in the order of their numbers.
-use Rattle.std.proofs.Common.{◌≡◌, ℕ, zero, suc, ◌+◌, ◌-◌, ◌<◌, ◌≤◌, Bool, true, false, ◌⊎◌, Some, sym, refl, ◌∙◌, inl, inr, arith}
+use Rattle.std.proofs.Common.{◌≡◌, ℕ, zero, suc, ◌+◌, ◌-◌, ◌<◌, ◌≤◌, Bool, true, false, ◌⊎◌, Some, sym, ◌∙◌, inl, inr, arith}
 use Rattle.std.proofs.lemmas.Bool.{cases_Bool, cases_eq, both_ways}
 use Rattle.plan.specs.Plans.{Plan, Sound, NextNeighbour, count, pairs}
 use Rattle.plan.specs.declared.number.Junction.{Junction}
@@ -9,9 +9,6 @@ use Rattle.plan.proofs.Counts.{count-le, count_flat}
 pub record BelowTo (q : Plan) (w k found : ℕ) : Type 0 where
   pub below : k < w
   pub counted : found ≡ count (λ v. q.joins (suc v) w) k
-
-pub below_none : (q : Plan) (w : ℕ) → 1 ≤ w → BelowTo q w 0 0
-below_none q w some = record { below = omega arith; counted = refl }
 
 module _ {q : Plan} {w k found : ℕ} (s : Sound q) (b : BelowTo q w k found) where
   pub below_more : (v : Junction) → NextNeighbour q w k (Some v) → v.0 ≤ w → BelowTo q w v.0 (found + 1)

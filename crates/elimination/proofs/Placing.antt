@@ -93,10 +93,3 @@ not-ordered-outside n us i h out = go (cases_Bool (ordered n us))
     go (inl t) =
         let e : (1 ≤ get_or us i 0) × (get_or us i 0 ≤ n) = (order_of n us t).each i h in
         absurd (both_ways (within n (get_or us i 0)) out (rw (le-leb 1 (get_or us i 0) e.0, le-leb (get_or us i 0) n e.1) refl))
-
-pub not-ordered-length : (n : ℕ) (us : List ℕ) → (length us ≡ n → ⊥) → ordered n us ≡ false
-not-ordered-length n us ne = go (cases_Bool (ordered n us))
-  where
-    go : (ordered n us ≡ true) ⊎ (ordered n us ≡ false) → ordered n us ≡ false
-    go (inr f) = f
-    go (inl t) = absurd (ne (order_of n us t).long)

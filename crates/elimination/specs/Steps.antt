@@ -1,4 +1,4 @@
--- The steps of the elimination: pairs marked in rows, and junctions whose parents take over from them.
+-- The steps of the elimination: the fill found so far, and junctions whose parents take over from them.
 use Rattle.std.specs.Prelude.{◌≡◌, ℕ, ◌+◌, ◌-◌, ◌*◌, ◌<◌, ◌≤◌, Bool, true, cond, not, ◌&&◌, ◌||◌, List, length, Some, None, Option, ◌==◌, nat_le, nat_lt, slice_index}
 use Rattle.pairs.specs.Rows.{marked}
 use Rattle.plan.specs.Plans.{Plan, pairs}

@@ -15,7 +15,8 @@ pub(crate) struct OrderedPlan<'a, P> {
 }
 
 impl<P: ReadablePlan> OrderedPlan<'_, P> {
-    // The lowest junction above w that is joined to v by a pipe or by the fill found so far.
+    // The lowest junction above w that is joined to v by a pipe or by the fill found so far. No
+    // iterator goes along them: while one junction takes over, the rows that it would hold change.
     fn next_known(&self, rows: &[u64], v: Junction, w: Junction) -> Option<Junction>
         requires { v.0 ≤ (P.meaning self.now.plan.now).size }
         ensures { NextIn (known (P.meaning self.now.plan.now) rows.now v.0) w.0 result }

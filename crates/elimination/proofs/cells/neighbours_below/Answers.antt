@@ -1,12 +1,7 @@
 use Rattle.std.proofs.Common.{◌<◌, ◌≤◌, rules, arith}
 use Rattle.plan.proofs.Walks.{goes_along, meets_next}
-use Rattle.elimination.proofs.Counting.{below_none, below_more, below_all, below_few}
+use Rattle.elimination.proofs.Counting.{below_more, below_all, below_few}
 use Rattle.elimination.proofs.cells.neighbours_below.Goals as goal
-
-pub loop-v-init : goal.loop-v-init
-loop-v-init g c =
-    let made = c.neighbours-v-items.ensures in
-    rw (c.into_iter-v-iterator.ensures.into_iter_gives, made.last) (record { plan = made.plan; of = made.of }, below_none (g.P.ReadablePlan.meaning c.args.plan.now) c.args.w.0 c.requires.0)
 
 pub overflow_add-found : goal.overflow_add-found
 overflow_add-found g c =

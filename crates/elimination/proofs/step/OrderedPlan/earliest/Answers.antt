@@ -7,10 +7,6 @@ pub loop-u-init : goal.loop-u-init
 loop-u-init g c =
     earliest_none (g.P.ReadablePlan.meaning c.args.self.now.plan.now) (g.met.P.ReadablePlan.sound c.args.self.now.plan.now) c.args.rows.now (at c.args.self.now.places.places) c.args.v.0
 
-pub loop-u-smaller-then-lt : goal.loop-u-smaller-then-lt
-loop-u-smaller-then-lt g c =
-    omega (arith, c.in-Some.ensures.0, (known_inside (g.P.ReadablePlan.meaning c.args.self.now.plan.now) (g.met.P.ReadablePlan.sound c.args.self.now.plan.now) c.args.rows.now c.args.v.0 c.in-Some.u.0 c.in-Some.ensures.1).1)
-
 pub loop-u-smaller : goal.loop-u-smaller
 loop-u-smaller g c =
     omega (arith, c.in-Some.ensures.0, (known_inside (g.P.ReadablePlan.meaning c.args.self.now.plan.now) (g.met.P.ReadablePlan.sound c.args.self.now.plan.now) c.args.rows.now c.args.v.0 c.in-Some.u.0 c.in-Some.ensures.1).1)

@@ -21,10 +21,6 @@ pub overflow_add-added : goal.overflow_add-added
 overflow_add-added g c =
     record { fits = omega (arith, c.loop-u.invariant.count, pairs_few (found (g.P.ReadablePlan.meaning c.args.self.now.plan.now).size c.loop-u.rows) (g.P.ReadablePlan.meaning c.args.self.now.plan.now).size (g.met.P.ReadablePlan.sound c.args.self.now.plan.now).few) }
 
-pub loop-u-smaller-then-join : goal.loop-u-smaller-then-join
-loop-u-smaller-then-join g c =
-    omega (arith, c.in-Some.ensures.0, (g.met.P.ReadablePlan.sound c.args.self.now.plan.now).few, (own_inside (g.met.P.ReadablePlan.sound c.args.self.now.plan.now) c.requires.table c.requires.later c.loop-u.invariant c.in-Some.u.0 c.in-Some.ensures.1).1)
-
 pub loop-u-preserved-then-join : goal.loop-u-preserved-then-join
 loop-u-preserved-then-join g c =
     let late : at c.args.self.now.places.places c.args.v.0 < at c.args.self.now.places.places c.in-Some.u.0 = search rules in

@@ -1,6 +1,6 @@
 use Rattle.std.proofs.Common.{vec_items, sym, ◌∙◌}
 use Rattle.std.proofs.lemmas.Bool.{both_ways}
-use Rattle.bits.proofs.Cells.{joined-mark}
+use Rattle.bits.proofs.Marks.{joined-mark}
 use Rattle.bits.proofs.register.reading.BitRegisterReadablePlan.joined.Goals as goal
 use Rattle.bits.proofs.register.reading.BitRegisterReadablePlan.joined.Goals.{then-is_within, else-is_within}
 
