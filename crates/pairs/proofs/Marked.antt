@@ -1,7 +1,7 @@
 -- The pairs marked in rows of words, read.
 use Rattle.std.proofs.Common.{◌≡◌, ℕ, ◌+◌, ◌-◌, ◌*◌, ◌/◌, ◌%◌, ◌<◌, ◌≤◌, true, false, ◌⊎◌, List, length, get_or, drop, Some, None, sym, refl, ap, ◌∙◌, inl, inr, arith}
 use Rattle.std.proofs.lemmas.List.{length-take}
-use Rattle.std.proofs.lemmas.Bool.{cases_lt, cases_Bool}
+use Rattle.std.proofs.lemmas.Bool.{cases_lt, both_ways, false_from_ne_true}
 use Rattle.std.proofs.lemmas.Bool.Decides.{nat_tests}
 use Rattle.bitset.specs.Bits.{bit, holds, NextHeld}
 use Rattle.bitset.proofs.BitLaws.{bit_of_zero}
@@ -18,11 +18,7 @@ unfolding marked
 marked_parts rows v w h = grind (arith, nat_tests)
 
 pub marked-outside : (rows : List ℕ) (v w : ℕ) → ((1 ≤ v) × (1 ≤ w) × (w ≤ 512) → ⊥) → marked rows v w ≡ false
-marked-outside rows v w out = go (cases_Bool (marked rows v w))
-  where
-    go : (marked rows v w ≡ true) ⊎ (marked rows v w ≡ false) → marked rows v w ≡ false
-    go (inl t) = absurd (out (marked_parts rows v w t))
-    go (inr f) = f
+marked-outside rows v w out = false_from_ne_true (marked rows v w) (λ t. out (marked_parts rows v w t))
 
 pub unmarked_off : (rows : List ℕ) (v w : ℕ) → within 512 w ≡ false → marked rows v w ≡ false
 unfolding marked
@@ -38,12 +34,10 @@ marked-bit rows v i a b =
 
 -- rows of zeros mark nothing
 pub marked_blank : (rows : List ℕ) (n : ℕ) → ((k : ℕ) → k < 8 * n → get_or rows k 0 ≡ 0) → (v w : ℕ) → v ≤ n → marked rows v w ≡ false
-marked_blank rows n clear v w l = go (cases_Bool (marked rows v w))
+marked_blank rows n clear v w l = false_from_ne_true (marked rows v w) (λ t. both_ways (marked rows v w) (unmarked (marked_parts rows v w t)) t)
   where
-    go : (marked rows v w ≡ true) ⊎ (marked rows v w ≡ false) → marked rows v w ≡ false
-    go (inr f) = f
-    go (inl t) =
-        let p : (1 ≤ v) × (1 ≤ w) × (w ≤ 512) = marked_parts rows v w t in
+    unmarked : (1 ≤ v) × (1 ≤ w) × (w ≤ 512) → marked rows v w ≡ false
+    unmarked p =
         let e : (w - 1) + 1 ≡ w = omega arith in
         let b : marked rows v w ≡ bit (get_or rows (8 * (v - 1) + (w - 1) / 64) 0) ((w - 1) % 64) = rw e at (marked-bit rows v (w - 1) p.0 (omega arith)) in
         b ∙ rw (clear (8 * (v - 1) + (w - 1) / 64) (omega arith)) (bit_of_zero ((w - 1) % 64))
