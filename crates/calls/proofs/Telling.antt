@@ -1,5 +1,5 @@
 -- The laws of runs.
-use Rattle.std.proofs.Common.{◌≡◌, ℕ, zero, suc, ◌+◌, ◌≤◌, Bool, true, false, cond, not, ◌&&◌, ◌||◌, eqb, List, [], ◌∷◌, ◌++◌, take, Some, None, Option, Ordering, sym, refl, ap, ◌∙◌, subst, arith}
+use Rattle.std.proofs.Common.{◌≡◌, ℕ, zero, suc, ◌+◌, ◌≤◌, Bool, true, false, cond, not, ◌&&◌, ◌||◌, eqb, List, [], ◌∷◌, ◌++◌, take, Some, None, Option, Ordering, sym, refl, ap, ◌∙◌, subst, arith, Ok, Err, Result}
 use Rattle.std.specs.Ordering.{ordering_reverse}
 use Rattle.std.proofs.lemmas.Bool.{eqb-false}
 use Rattle.plan.specs.Orders.{numbers}
@@ -20,8 +20,9 @@ use Rattle.calls.specs.Deeds.{Deed, loads, joins, cuts, shuts, opens, orders, ve
 use Rattle.calls.specs.Heard.{Heard, Lists, said}
 use Rattle.calls.specs.Laws.{tells_pipe, tells_shut, or_else, later, last_told, lays, lifts, total, SameOrder, RunLaws}
 use Rattle.calls.specs.Runs.{Run, last_lists, ChangeHeard, OrderHeard, Left}
-use Rattle.calls.specs.declared.answer.Answer.{Answer}
-use Rattle.calls.specs.declared.answer.Answer.TheVariants.{Done, Refused, Ordered}
+use Rattle.calls.specs.declared.answer.Outcome.{Outcome}
+use Rattle.plan.specs.declared.refusal.Refusal.{Refusal}
+use Rattle.calls.specs.declared.answer.Outcome.TheVariants.{Done, Ordered}
 use Rattle.calls.proofs.Runs.{fed-size}
 
 or_else-later : {A : Type 0} (x t : Option A) (b : A) → or_else x (or_else t b) ≡ or_else (later x t) b
@@ -136,18 +137,18 @@ module _ {K : Type 0} where
   fed_serves l (d ∷ ds) = fed_serves (next l d) ds ∙ after-serves (verdict l d) (written l d) l (written_serves l d)
 
 -- two answers to a change with one verdict
-changes_alike : (before before' : Lists) (a a' : Answer) (now now' : Lists) → said a ≡ said a' → ChangeHeard before a now → ChangeHeard before' a' now' → SameOrder a now a' now'
-changes_alike before before' (Ordered n r) a' now now' e c c' = absurd c
-changes_alike before before' Done (Ordered n r) now now' e c c' = absurd c'
-changes_alike before before' Done Done now now' e c c' = tt
-changes_alike before before' Done (Refused x) now now' e c c' = carried≢refused _ _ (sym e)
-changes_alike before before' (Refused x) (Ordered n r) now now' e c c' = absurd c'
-changes_alike before before' (Refused x) Done now now' e c c' = carried≢refused _ _ e
-changes_alike before before' (Refused x) (Refused y) now now' e c c' = tt
+changes_alike : (before before' : Lists) (a a' : Result Outcome Refusal) (now now' : Lists) → said a ≡ said a' → ChangeHeard before a now → ChangeHeard before' a' now' → SameOrder a now a' now'
+changes_alike before before' (Ok (Ordered n r)) a' now now' e c c' = absurd c
+changes_alike before before' (Ok Done) (Ok (Ordered n r)) now now' e c c' = absurd c'
+changes_alike before before' (Ok Done) (Ok Done) now now' e c c' = tt
+changes_alike before before' (Ok Done) (Err x) now now' e c c' = carried≢refused _ _ (sym e)
+changes_alike before before' (Err x) (Ok (Ordered n r)) now now' e c c' = absurd c'
+changes_alike before before' (Err x) (Ok Done) now now' e c c' = carried≢refused _ _ e
+changes_alike before before' (Err x) (Err y) now now' e c c' = tt
 
 module _ {K L : Type 0} (blank : K → L) (raised : K → L → ℕ → L) (compared : K → L → L → Ordering) (turns : (k : K) (a b : L) → compared k b a ≡ ordering_reverse (compared k a b)) (l : Ledger) where
   -- two orders of one plan by one kind
-  orders_alike : (k : K) (before before' now now' : Lists) (n n' : ℕ) (r r' : Report) → OrderHeard blank raised compared l before k (Ordered n r) now → OrderHeard blank raised compared l before' k (Ordered n' r') now' → SameOrder (Ordered n r) now (Ordered n' r') now'
+  orders_alike : (k : K) (before before' now now' : Lists) (n n' : ℕ) (r r' : Report) → OrderHeard blank raised compared l before k (Ok (Ordered n r)) now → OrderHeard blank raised compared l before' k (Ok (Ordered n' r')) now' → SameOrder (Ok (Ordered n r)) now (Ok (Ordered n' r')) now'
   orders_alike k before before' now now' n n' r r' o o' =
       let same = at_most_one (blank k) (raised k) (compared k) (turns k) (seen l) (take l.base.size (numbers now.places)) (take l.base.size (numbers now'.places)) o.1.searched o'.1.searched in
       let fills : r.fill ≡ r'.fill = o.1.count ∙ ap (λ (us : List ℕ). pairs (fill (seen l).joins us) l.base.size) same ∙ sym o'.1.count in
@@ -160,16 +161,16 @@ module _ {K L : Type 0} (blank : K → L) (raised : K → L → ℕ → L) (comp
         ((λ e. ring'.1 (sym fills ∙ ring.0 e)), λ e. ring.1 (fills ∙ ring'.0 e)),
       )
 
-  order_answers_alike : (k : K) (before before' : Lists) (a a' : Answer) (now now' : Lists) → said a ≡ said a' → OrderHeard blank raised compared l before k a now → OrderHeard blank raised compared l before' k a' now' → SameOrder a now a' now'
-  order_answers_alike k before before' Done a' now now' e c c' = absurd c
-  order_answers_alike k before before' (Refused x) Done now now' e c c' = absurd c'
-  order_answers_alike k before before' (Refused x) (Refused y) now now' e c c' = tt
-  order_answers_alike k before before' (Refused x) (Ordered n r) now now' e c c' = carried≢refused _ _ e
-  order_answers_alike k before before' (Ordered n r) Done now now' e c c' = absurd c'
-  order_answers_alike k before before' (Ordered n r) (Refused y) now now' e c c' = carried≢refused _ _ (sym e)
-  order_answers_alike k before before' (Ordered n r) (Ordered n' r') now now' e c c' = orders_alike k before before' now now' n n' r r' c c'
+  order_answers_alike : (k : K) (before before' : Lists) (a a' : Result Outcome Refusal) (now now' : Lists) → said a ≡ said a' → OrderHeard blank raised compared l before k a now → OrderHeard blank raised compared l before' k a' now' → SameOrder a now a' now'
+  order_answers_alike k before before' (Ok Done) a' now now' e c c' = absurd c
+  order_answers_alike k before before' (Err x) (Ok Done) now now' e c c' = absurd c'
+  order_answers_alike k before before' (Err x) (Err y) now now' e c c' = tt
+  order_answers_alike k before before' (Err x) (Ok (Ordered n r)) now now' e c c' = carried≢refused _ _ e
+  order_answers_alike k before before' (Ok (Ordered n r)) (Ok Done) now now' e c c' = absurd c'
+  order_answers_alike k before before' (Ok (Ordered n r)) (Err y) now now' e c c' = carried≢refused _ _ (sym e)
+  order_answers_alike k before before' (Ok (Ordered n r)) (Ok (Ordered n' r')) now now' e c c' = orders_alike k before before' now now' n n' r r' c c'
 
-  pub answers_alike : (d : Deed K) (before before' : Lists) (a a' : Answer) (now now' : Lists) → said a ≡ said a' → Left blank raised compared l before d a now → Left blank raised compared l before' d a' now' → SameOrder a now a' now'
+  pub answers_alike : (d : Deed K) (before before' : Lists) (a a' : Result Outcome Refusal) (now now' : Lists) → said a ≡ said a' → Left blank raised compared l before d a now → Left blank raised compared l before' d a' now' → SameOrder a now a' now'
   answers_alike (loads bytes) before before' a a' now now' e c c' = changes_alike before before' a a' now now' e c c'
   answers_alike (joins v w) before before' a a' now now' e c c' = changes_alike before before' a a' now now' e c c'
   answers_alike (cuts v w) before before' a a' now now' e c c' = changes_alike before before' a a' now now' e c c'

@@ -1,5 +1,5 @@
 -- What holds of every run, told by its calls and their answers alone.
-use Rattle.std.specs.Prelude.{◌≡◌, ℕ, ◌+◌, Bool, true, false, cond, ◌↔◌, List, [], ◌∷◌, ◌++◌, take, Some, None, Option, ◌==◌}
+use Rattle.std.specs.Prelude.{◌≡◌, ℕ, ◌+◌, Bool, true, false, cond, ◌↔◌, List, [], ◌∷◌, ◌++◌, take, Some, None, Option, ◌==◌, Ok, Err, Result}
 use Rattle.std.specs.declared.cmp.Ordering.{Ordering}
 use Rattle.plan.specs.Orders.{numbers}
 use Rattle.plan.specs.Refusals.{after}
@@ -10,8 +10,9 @@ use Rattle.set.specs.Ledgers.{Ledger}
 use Rattle.calls.specs.Deeds.{Deed, loads, joins, cuts, shuts, opens, orders, fed}
 use Rattle.calls.specs.Heard.{Heard, Lists, said}
 use Rattle.calls.specs.Runs.{Answered, Run, last_lists}
-use Rattle.calls.specs.declared.answer.Answer.{Answer}
-use Rattle.calls.specs.declared.answer.Answer.TheVariants.{Done, Refused, Ordered}
+use Rattle.calls.specs.declared.answer.Outcome.{Outcome}
+use Rattle.plan.specs.declared.refusal.Refusal.{Refusal}
+use Rattle.calls.specs.declared.answer.Outcome.TheVariants.{Done, Ordered}
 
 -- what a call says of the pair v, w: that it has a pipe from now on, that it has none, or nothing
 abbrev pub tells_pipe : {K : Type 0} → ℕ → ℕ → Deed K → Option Bool
@@ -69,16 +70,16 @@ total amount (d ∷ ds) [] = 0
 total amount (d ∷ ds) (h ∷ hs) = after (said h.answer) (amount d) 0 + total amount ds hs
 
 -- two orders are the same but for the ring: n, fill, cells, the first n places, and whether a ring is shown. (The rows hold the fill pairs of those places)
-abbrev pub SameOrder : Answer → Lists → Answer → Lists → Type 0
-SameOrder (Ordered n r) now (Ordered n' r') now' = (n ≡ n') × (r.fill ≡ r'.fill) × (r.cells ≡ r'.cells) × (take n (numbers now.places) ≡ take n (numbers now'.places)) × ((r.ring ≡ 0) ↔ (r'.ring ≡ 0))
-SameOrder (Ordered n r) now Done now' = ⊥
-SameOrder (Ordered n r) now (Refused e) now' = ⊥
-SameOrder Done now (Ordered n r) now' = ⊥
-SameOrder Done now Done now' = Unit {0}
-SameOrder Done now (Refused e) now' = ⊥
-SameOrder (Refused e) now (Ordered n r) now' = ⊥
-SameOrder (Refused e) now Done now' = ⊥
-SameOrder (Refused e) now (Refused e') now' = Unit {0}
+abbrev pub SameOrder : Result Outcome Refusal → Lists → Result Outcome Refusal → Lists → Type 0
+SameOrder (Ok (Ordered n r)) now (Ok (Ordered n' r')) now' = (n ≡ n') × (r.fill ≡ r'.fill) × (r.cells ≡ r'.cells) × (take n (numbers now.places) ≡ take n (numbers now'.places)) × ((r.ring ≡ 0) ↔ (r'.ring ≡ 0))
+SameOrder (Ok (Ordered n r)) now (Ok Done) now' = ⊥
+SameOrder (Ok (Ordered n r)) now (Err e) now' = ⊥
+SameOrder (Ok Done) now (Ok (Ordered n r)) now' = ⊥
+SameOrder (Ok Done) now (Ok Done) now' = Unit {0}
+SameOrder (Ok Done) now (Err e) now' = ⊥
+SameOrder (Err e) now (Ok (Ordered n r)) now' = ⊥
+SameOrder (Err e) now (Ok Done) now' = ⊥
+SameOrder (Err e) now (Err e') now' = Unit {0}
 
 pub record RunLaws {K L : Type 0} (blank : K → L) (raised : K → L → ℕ → L) (compared : K → L → L → Ordering) : Type 0 where
   -- v and w are joined exactly when the last call carried out on that pair was a join, or a load with that pipe; where there was none, as they were before

@@ -5,8 +5,9 @@ use Rattle.order.specs.Reports as report
 use Rattle.set.specs.Ledgers.{Ledger, seen}
 use Rattle.calls.specs.Deeds.{Deed, loads, joins, cuts, shuts, opens, orders, verdict, next, fed}
 use Rattle.calls.specs.Heard.{Heard, Lists, said, Told}
-use Rattle.calls.specs.declared.answer.Answer.{Answer}
-use Rattle.calls.specs.declared.answer.Answer.TheVariants.{Done, Refused, Ordered}
+use Rattle.calls.specs.declared.answer.Outcome.{Outcome}
+use Rattle.plan.specs.declared.refusal.Refusal.{Refusal}
+use Rattle.calls.specs.declared.answer.Outcome.TheVariants.{Done, Ordered}
 
 -- the answer lists after the last answer
 abbrev pub last_lists : Lists → List Heard → Lists
@@ -14,20 +15,20 @@ last_lists before [] = before
 last_lists before (h ∷ hs) = last_lists h.lists hs
 
 -- a change writes no answer list
-abbrev pub ChangeHeard : Lists → Answer → Lists → Type 0
-ChangeHeard before Done now = now ≡ before
-ChangeHeard before (Refused e) now = now ≡ before
-ChangeHeard before (Ordered n report) now = ⊥
+abbrev pub ChangeHeard : Lists → Result Outcome Refusal → Lists → Type 0
+ChangeHeard before (Ok Done) now = now ≡ before
+ChangeHeard before (Err e) now = now ≡ before
+ChangeHeard before (Ok (Ordered n report)) now = ⊥
 
 -- over the labels of each kind: the empty one, the raised one, and the comparison
 module _ {K L : Type 0} (blank : K → L) (raised : K → L → ℕ → L) (compared : K → L → L → Ordering) where
   -- an order is that of the ledger's plan; turned down, it writes no answer list
-  abbrev pub OrderHeard : Ledger → Lists → K → Answer → Lists → Type 0
-  OrderHeard l before k Done now = ⊥
-  OrderHeard l before k (Refused e) now = now ≡ before
-  OrderHeard l before k (Ordered n r) now = (n ≡ l.base.size) × report.Ordered (blank k) (raised k) (compared k) (seen l) r before.places before.ring before.rows now.places now.ring now.rows
+  abbrev pub OrderHeard : Ledger → Lists → K → Result Outcome Refusal → Lists → Type 0
+  OrderHeard l before k (Ok Done) now = ⊥
+  OrderHeard l before k (Err e) now = now ≡ before
+  OrderHeard l before k (Ok (Ordered n r)) now = (n ≡ l.base.size) × report.Ordered (blank k) (raised k) (compared k) (seen l) r before.places before.ring before.rows now.places now.ring now.rows
 
-  abbrev pub Left : Ledger → Lists → Deed K → Answer → Lists → Type 0
+  abbrev pub Left : Ledger → Lists → Deed K → Result Outcome Refusal → Lists → Type 0
   Left l before (loads bytes) a now = ChangeHeard before a now
   Left l before (joins v w) a now = ChangeHeard before a now
   Left l before (cuts v w) a now = ChangeHeard before a now

@@ -2,10 +2,13 @@
 use order::Report;
 use plan::Refusal;
 
-/// The answer to a call: carried out, turned down, or an order of n junctions with its numbers.
+/// What a call comes to that is carried out: a change says no more, and an order has the number of
+/// its junctions and its report.
 #[derive(Clone, Copy)]
-pub enum Answer {
+pub enum Outcome {
     Done,
-    Refused(Refusal),
     Ordered(u16, Report),
 }
+
+/// The answer to a call: what it came to, or the refusal by which it was turned down.
+pub type Answer = Result<Outcome, Refusal>;

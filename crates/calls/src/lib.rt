@@ -8,8 +8,8 @@ mod laws;
 mod listener;
 mod runner;
 
-pub use answer::Answer;
+pub use answer::{Answer, Outcome};
 pub use call::Call;
 pub use laws::run_laws;
-pub use listener::Listener;
+pub use listener::{Listener, Lists};
 pub use runner::run;

@@ -5,14 +5,14 @@ ghost use Rattle.order.specs.Reports.{short};
 ghost use Rattle.set.specs.Kept.{ledger};
 ghost use Rattle.set.specs.Ledgers.{New, started};
 ghost use Rattle.calls.specs.Deeds.{deed, next, idle, all_idle};
-ghost use Rattle.calls.specs.Heard.{heard_with, lists_of, answer_of};
+ghost use Rattle.calls.specs.Heard.{heard_with, lists_of};
 ghost use Rattle.calls.specs.Runs.{Answered, RanOrFailed};
 
-use crate::answer::Answer;
+use crate::answer::{Answer, Outcome};
 use crate::call::Call;
-use crate::listener::Listener;
+use crate::listener::{Listener, Lists};
 use label::Kind;
-use plan::{Junction, Refusal, Register};
+use plan::{Junction, Register};
 use set::Set;
 
 /// Makes the calls of a list on a set, in turn, and tells the listener each answer. An order needs n
@@ -37,9 +37,8 @@ pub fn run<R: Register, K: Kind, L: Listener>(
 {
     for call in calls {
         let answer = carry_out(set, call, places, ring, rows, labels, scratch);
-        if let Err(error) = listener.hear(answer, places, ring, rows) {
-            return Err(error);
-        }
+        let lists = Lists { places, ring, rows };
+        listener.hear(answer, lists)?;
     }
     Ok(())
 }
@@ -61,24 +60,15 @@ fn carry_out<R: Register, K: Kind>(
     ensures idle { idle (deed (short (ledger R.ReadablePlan.meaning R.Register.left set.old).base.size places.old ring.old rows.old labels.old scratch.old) call.now) ≡ true → (labels.new ≡ labels.old) × (scratch.new ≡ scratch.old) }
 {
     match call {
-        Call::Load(image) => done(set.load(image)),
-        Call::Join(v, w) => done(set.join(*v, *w)),
-        Call::Cut(v, w) => done(set.cut(*v, *w)),
-        Call::Shut(v) => done(set.shut(*v)),
-        Call::Open(v) => done(set.open(*v)),
-        Call::Order(kind) => match set.order(kind, places, ring, rows, labels, scratch) {
-            Ok(report) => Answer::Ordered(set.size(), report),
-            Err(refusal) => Answer::Refused(refusal),
-        },
+        Call::Load(image) => set.load(image)?,
+        Call::Join(v, w) => set.join(*v, *w)?,
+        Call::Cut(v, w) => set.cut(*v, *w)?,
+        Call::Shut(v) => set.shut(*v)?,
+        Call::Open(v) => set.open(*v)?,
+        Call::Order(kind) => {
+            let report = set.order(kind, places, ring, rows, labels, scratch)?;
+            return Ok(Outcome::Ordered(set.size(), report));
+        }
     }
-}
-
-// The answer to a change.
-fn done(res: Result<(), Refusal>) -> Answer
-    ensures { result ≡ answer_of res }
-{
-    match res {
-        Ok(()) => Answer::Done,
-        Err(refusal) => Answer::Refused(refusal),
-    }
+    Ok(Outcome::Done)
 }

@@ -1,6 +1,7 @@
 pub mod Blanks
 pub mod Chains
 pub mod Cutting
+pub mod Found
 pub mod Joining
 pub mod Layouts
 pub mod States

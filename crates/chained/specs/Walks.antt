@@ -1,13 +1,14 @@
 -- A walk along a chain, and what it finds.
-use Rattle.std.specs.Prelude.{◌≡◌, ℕ, suc, ◌+◌, ◌-◌, ◌*◌, ◌<◌, ◌≤◌, true, false, ◌⊎◌, List, Some, None, vec_items, ◌==◌, ◌≢◌, nat_eq, nat_le, slice_index, refl}
+use Rattle.std.specs.Prelude.{◌≡◌, ℕ, suc, ◌+◌, ◌-◌, ◌*◌, ◌<◌, ◌≤◌, true, false, ◌⊎◌, List, Some, None, Option, vec_items, ◌==◌, ◌≢◌, nat_eq, nat_le, slice_index, refl}
 use Rattle.std.proofs.Common.{sym, ap, ◌∙◌, inl, inr, arith}
 use Rattle.std.proofs.lemmas.Bool.{cases_Bool, cases_eq, and_from, le-leb, eq-eqb, ne_eqb}
+use Rattle.plan.specs.declared.number.Junction.{Junction}
 use Rattle.plan.specs.Plans.{within, Sound, NextNeighbour}
 use Rattle.plan.proofs.Pipes.{within_parts}
 use Rattle.chained.specs.declared.register.ChainedRegister.{ChainedRegister}
 use Rattle.chained.specs.Nodes.{far, owner, joined}
 use Rattle.chained.specs.Making.{plan_of}
-use Rattle.chained.specs.Reading.{SeatIn, NeighbourFrom}
+use Rattle.chained.specs.Reading.{SeatIn, NeighbourFrom, number_of}
 use Rattle.chained.specs.NodesLemmas.{far_head, far_cell, owner_head, cell_since_far, CellOf, cell_of_joined, joined_of_cell, joined_alike}
 
 -- a walk from node `start`, a head, up to w is at a node, with the next one read
@@ -142,6 +143,9 @@ module _ (r : ChainedRegister) where
           go x a b (inl e) = absurd (omega (arith, (behind_seat x a e).1, b))
           go x a b (inr e) = e
 
+      pub neighbour_some : slice_index (vec_items r.cells) (after s + 2 * r.c) ≢ 0
+      neighbour_some e = omega (arith, found.3, found.4, e)
+
       pub neighbour_found : NeighbourFrom (plan_of r) v w (slice_index (vec_items r.cells) (after s + 2 * r.c))
       neighbour_found = rw found.4 at neighbour_end
 
@@ -164,6 +168,27 @@ module _ (r : ChainedRegister) where
         go : (u ≡ w) ⊎ (u ≢ w) → (u == w) ≡ joined r.n r.c (vec_items r.cells) v w
         go (inl e) = eq-eqb u w e ∙ sym (joined_since e)
         go (inr ne) = ne_eqb u w ne ∙ sym (unjoined_since ne)
+
+  -- the neighbour from w on as the next one behind w - 1, and the other way round
+  pub next_from_none : (v w : ℕ) → 1 ≤ w → NeighbourFrom (plan_of r) v w 0 → NextNeighbour (plan_of r) v (w - 1) None
+  next_from_none v w some h u l = h.none refl u (omega arith)
+
+  pub next_from : (v w u : ℕ) → 1 ≤ w → (u ≢ 0) → NeighbourFrom (plan_of r) v w u → NextNeighbour (plan_of r) v (w - 1) (Some (record { 0 = u }))
+  next_from v w u some ne h = (omega (arith, h.from (omega arith)), h.joins (omega arith), λ x a b. h.least x (omega arith) b)
+
+  pub from_next : (v w : ℕ) (f : Option Junction) → 1 ≤ w → NextNeighbour (plan_of r) v (w - 1) f → NeighbourFrom (plan_of r) v w (number_of f)
+  from_next v w None some h = record {
+    none = λ e x l. h x (omega arith);
+    from = λ l. absurd (omega arith);
+    joins = λ l. absurd (omega arith);
+    least = λ x a b. absurd (omega arith);
+  }
+  from_next v w (Some u) some h = record {
+    none = λ e x l. absurd (omega (arith, e, h.0));
+    from = λ l. omega (arith, h.0);
+    joins = λ l. h.1;
+    least = λ x a b. h.2 x (omega arith) b;
+  }
 
   pub next-none : (v w : ℕ) → NeighbourFrom (plan_of r) v (w + 1) 0 → NextNeighbour (plan_of r) v w None
   next-none v w h u l = h.none refl u (omega arith)

@@ -1,6 +1,6 @@
 //! What the office reads of an image.
 use image::CheckedImage;
-use plan::{Junction, ReadablePlan, Refusal, TurnedDown};
+use plan::{Junction, ReadablePlan, Refusal, TurnedDown, neighbours};
 use std::fmt;
 
 /// The image, or why the bytes are none, as lines: `junctions` and `pipes` with their numbers, and
@@ -26,20 +26,16 @@ impl fmt::Display for Report {
 
 // Writes the line of a refusal.
 fn write_refusal<W: fmt::Write>(f: &mut fmt::Formatter<W>, refusal: Refusal) -> fmt::Result {
-    let number = refusal.code();
     match refusal {
-        Refusal::ChainFault(v) => {
-            let junction = v.0;
-            writeln!(f, "no {number} {junction}")
-        }
-        _ => writeln!(f, "no {number}"),
+        Refusal::ChainFault(v) => writeln!(f, "no {refusal} {v}"),
+        _ => writeln!(f, "no {refusal}"),
     }
 }
 
 // Writes the lines of all junctions.
 fn write_pipes<P: ReadablePlan, W: fmt::Write>(f: &mut fmt::Formatter<W>, plan: &P) -> fmt::Result {
-    for v in 1..plan.size() + 1 {
-        write_neighbours(f, plan, Junction(v))?;
+    for v in (1..=plan.size()).map(Junction) {
+        write_neighbours(f, plan, v)?;
     }
     Ok(())
 }
@@ -50,16 +46,13 @@ fn write_neighbours<P: ReadablePlan, W: fmt::Write>(
     plan: &P,
     v: Junction,
 ) -> fmt::Result {
-    if plan.next(v, Junction(0)).is_none() {
+    let mut walk = neighbours(plan, v);
+    let Some(first) = walk.next() else {
         return Ok(());
-    }
-    let junction = v.0;
-    write!(f, "junction {junction} neighbours")?;
-    let mut last = Junction(0);
-    while let Some(w) = plan.next(v, last) {
-        let neighbour = w.0;
-        write!(f, " {neighbour}")?;
-        last = w;
+    };
+    write!(f, "junction {v} neighbours {first}")?;
+    for w in walk {
+        write!(f, " {w}")?;
     }
     writeln!(f)
 }

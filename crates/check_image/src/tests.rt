@@ -52,6 +52,6 @@ fn shows_refusals(rt: HostRuntime) -> Result<(), Fail> {
 fn shows(rt: &impl Abort, heap: Global, bytes: &[u8], lines: &str) -> Result<(), Fail> {
     let report = Report(CheckedImage::new(bytes.to_vec(heap)?));
     let text = format!(in heap; "{report}")?;
-    assert!(rt; text.as_str() == lines);
+    assert_eq!(rt; text.as_str(), lines);
     Ok(())
 }

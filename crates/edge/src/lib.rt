@@ -14,17 +14,18 @@ use std::{env, fs, io};
 pub fn read_input(rt: &HostRuntime, limit: u64) -> io::Result<Vec<u8>>
     ensures { IfOk result (λ v. vec_len v ≤ limit) }
 {
-    let mut bytes = Vec::new(rt.alloc());
     match env::args(rt)?.nth(1) {
-        Some(name) => {
-            let _ = fs::open(rt, name.as_str())?
-                .take(limit)
-                .read_to_end(&mut bytes)?;
-        }
-        None => {
-            let _ = rt.stdin().take(limit).read_to_end(&mut bytes)?;
-        }
+        Some(name) => first_bytes(rt.alloc(), fs::open(rt, name.as_str())?, limit),
+        None => first_bytes(rt.alloc(), rt.stdin(), limit),
     }
+}
+
+// What the reader gives, cut after `limit` bytes.
+fn first_bytes<R: Read + Drop>(heap: Global, reader: R, limit: u64) -> io::Result<Vec<u8>>
+    ensures { IfOk result (λ v. vec_len v ≤ limit) }
+{
+    let mut bytes = Vec::new(heap);
+    let _ = reader.take(limit).read_to_end(&mut bytes)?;
     bytes.truncate(limit as usize);
     Ok(bytes)
 }
@@ -34,19 +35,13 @@ pub fn filled<T: Copy>(heap: Global, value: T, count: usize) -> Result<Vec<T>, A
     ensures long { IfOk result (λ v. vec_len v ≡ count) }
     ensures each { IfOk result (λ v. (k : ℕ) (d : T) → k < count → slice_index_or v.items k d ≡ value) }
 {
-    let mut entries = Vec::new(heap);
-    for _ in 0..count {
-        entries.push(value)?;
-    }
-    Ok(entries)
+    // Not `vec!`, which clones the value: no bound says that a clone of it is the same.
+    (0..count).map(|_| value).collect(heap)
 }
 
 /// Memory of `count` entries, each the value; or of none, where there is no memory for them.
 pub fn filled_or_empty<T: Copy>(heap: Global, value: T, count: usize) -> Vec<T>
     ensures { ((vec_len result ≡ count) → ⊥) → vec_len result ≡ 0 }
 {
-    match filled(heap, value, count) {
-        Ok(entries) => entries,
-        Err(_) => Vec::new(heap),
-    }
+    filled(heap, value, count).unwrap_or_else(|_| Vec::new(heap))
 }

@@ -7,7 +7,7 @@ ghost use Rattle.calls.specs.Heard.{lists_of};
 ghost use Rattle.image_order.specs.ImageOrders.{ImageOrdered};
 
 use crate::first::First;
-use calls::{Answer, Call, run};
+use calls::{Answer, Call, Outcome, run};
 use chained::ChainedRegister;
 use image::check;
 use label::{Lexicographic, MarkSet};
@@ -36,17 +36,11 @@ pub fn order_image(
     ensures labels { KeptFrom (image_of bytes.now).size labels.old labels.new }
     ensures scratch { KeptFrom (2 * (image_of bytes.now).size) scratch.old scratch.new }
 {
-    let header = match check(bytes) {
-        Ok(header) => header,
-        Err(refusal) => return Answer::Refused(refusal),
-    };
-    let register = match ChainedRegister::new(header.n, PIPES, memory) {
-        Ok(register) => register,
-        Err(turned) => return Answer::Refused(turned.refusal),
-    };
+    let header = check(bytes)?;
+    let register = ChainedRegister::new(header.n, PIPES, memory).map_err(|turned| turned.refusal)?;
     let mut set = Set::new(register);
     let mut first = First {
-        answer: Answer::Done,
+        answer: Ok(Outcome::Done),
     };
     let calls = [Call::Load(bytes), Call::Order(Lexicographic)];
     match run(

@@ -2,14 +2,13 @@
 ghost use Rattle.std.specs.Prelude.{◌≡◌};
 ghost use Rattle.image_order.specs.Firsts.{or_told, first_told};
 
-use calls::{Answer, Listener};
-use plan::Junction;
+use calls::{Answer, Listener, Lists, Outcome};
 use std::convert::Infallible;
 
 /// Keeps the first answer that says more than that a call was carried out.
 #[derive(Drop)]
 pub(crate) struct First {
-    /// That answer, or `Done` while there is none.
+    /// That answer, or `Outcome::Done` while there is none.
     pub(crate) answer: Answer,
 }
 
@@ -18,13 +17,7 @@ impl Listener for First {
 
     ghost log = { λ s hs. s.answer ≡ first_told hs };
 
-    fn hear(
-        &mut self,
-        answer: Answer,
-        _: &[Junction],
-        _: &[Junction],
-        _: &[u64],
-    ) -> Result<(), Infallible> {
+    fn hear(&mut self, answer: Answer, _: Lists<'_>) -> Result<(), Infallible> {
         self.answer = or(self.answer, answer);
         Ok(())
     }
@@ -35,7 +28,7 @@ fn or(first: Answer, second: Answer) -> Answer
     ensures { result ≡ or_told first second }
 {
     match first {
-        Answer::Done => second,
+        Ok(Outcome::Done) => second,
         _ => first,
     }
 }

@@ -33,19 +33,13 @@ pub fn order<P: ReadablePlan, K: Kind>(
     if labels.len() < n || scratch.len() < 2 * n {
         return Err(Refusal::ShortMemory);
     }
-    let Ok(()) = search(plan, kind, places, labels, scratch) else {
-        return unreachable();
+    search(plan, kind, places, labels, scratch)?;
+    let fill = fill(plan, &places[0..n], rows)?;
+    let length = if fill > 0 {
+        find_ring(plan, ring, scratch)?
+    } else {
+        0
     };
-    let Ok(fill) = fill(plan, &places[0..n], rows) else {
-        return unreachable();
-    };
-    let mut length = 0;
-    if fill > 0 {
-        let Ok(k) = find_ring(plan, ring, scratch) else {
-            return unreachable();
-        };
-        length = k;
-    }
     let cells = pipes(plan) + fill;
     Ok(Report {
         fill,

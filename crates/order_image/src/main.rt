@@ -5,13 +5,14 @@
 #[cfg(test)]
 mod tests;
 
+use calls::Lists;
 use edge::{filled, read_input};
 use image::IMAGE_LIMIT;
 use image_order::{PIPES, order_image};
 use label::{Kind, Lexicographic};
-use ledger_visit::Listing;
 use plan::Junction;
 use std::io;
+use visit::Listing;
 
 // Prints the order of the image that standard input, or the file named, has.
 fn main(rt: HostRuntime) -> io::Result<()> {
@@ -33,10 +34,11 @@ fn main(rt: HostRuntime) -> io::Result<()> {
         &mut labels,
         &mut scratch,
     );
-    let listing = Listing {
-        answer,
+    let lists = Lists {
         places: &places,
         ring: &ring,
+        rows: &rows,
     };
+    let listing = Listing { answer, lists };
     print!(rt; "{listing}")
 }

@@ -1,11 +1,12 @@
+use calls::Lists;
 use edge::filled;
 use image_order::{PIPES, order_image};
 use label::{Kind, Lexicographic};
-use ledger_visit::Listing;
 use plan::Junction;
 use std::alloc::Global;
 use std::process::Abort;
 use std::test::Fail;
+use visit::Listing;
 
 /// The ring of four junctions.
 const RING: &[u8; 40] =
@@ -80,11 +81,12 @@ fn shows(
         &mut labels,
         &mut scratch,
     );
-    let listing = Listing {
-        answer,
+    let lists = Lists {
         places: &places,
         ring: &ring,
+        rows: &rows,
     };
+    let listing = Listing { answer, lists };
     let text = format!(in heap; "{listing}")?;
     assert!(rt; text.as_str() == lines);
     Ok(())

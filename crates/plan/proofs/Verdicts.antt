@@ -1,6 +1,6 @@
 -- What a verdict tells of the checks that made it.
-use Rattle.std.proofs.Common.{◌≡◌, ℕ, ◌+◌, ◌-◌, Bool, true, false, cond, not, eqb, List, [], ◌∷◌, sym, refl, ap, ◌∙◌, arith}
-use Rattle.std.proofs.lemmas.Bool.{not-false, and_parts}
+use Rattle.std.proofs.Common.{◌≡◌, ℕ, ◌+◌, ◌-◌, Bool, true, false, cond, not, ◌&&◌, eqb, List, [], ◌∷◌, sym, refl, ap, ◌∙◌, arith}
+use Rattle.std.proofs.lemmas.Bool.{not-false, and_parts, both_ways, eq-eqb}
 use Rattle.plan.specs.Plans.{Plan, within}
 use Rattle.plan.specs.Refusals.{Verdict, carried, refused, checked, after}
 use Rattle.plan.specs.Registers.{Joins, Cuts, join_verdict, cut_verdict, outside, unserved, with_pipe, without_pipe}
@@ -67,3 +67,25 @@ module _ (p : Plan) (v w : ℕ) where
 
   pub cut_plan : {s s' : ℕ} {a : Verdict} {p' : Plan} → Cuts p s v w a p' s' → p' ≡ after a (without_pipe p v w) p
   cut_plan j = j.plan ∙ ap (λ x. after x (without_pipe p v w) p) (sym j.says)
+
+-- ---- the checks of the two ends, which a join and a cut ask first
+abbrev pub ends_verdict : ℕ → ℕ → ℕ → Verdict
+ends_verdict n v w = checked ((not (within n v && within n w), 2) ∷ (eqb v w, 3) ∷ [])
+
+pub ends_passed : (n v w : ℕ) → carried ≡ ends_verdict n v w → (within n v ≡ true) × (within n w ≡ true) × (v ≡ w → ⊥)
+ends_passed n v w h =
+    let t = all_passed ((not (within n v && within n w), 2) ∷ (eqb v w, 3) ∷ []) (sym h) in
+    let i = and_parts (within n v) (within n w) (not-false _ t.0) in
+    (i.0, i.1, λ e. both_ways (eqb v w) t.1.0 (eq-eqb v w e))
+
+-- where they turn a call down, no later check is asked
+ends_stop : (a b : Bool) (more : List (Bool × ℕ)) (k : ℕ) (vs : List ℕ) → refused k vs ≡ checked ((a, 2) ∷ (b, 3) ∷ []) → checked ((a, 2) ∷ (b, 3) ∷ more) ≡ refused k vs
+ends_stop true b more k vs h = sym h
+ends_stop false true more k vs h = sym h
+ends_stop false false more k vs h = absurd (carried≢refused k vs h)
+
+pub join_stopped : (p : Plan) (s v w k : ℕ) (vs : List ℕ) → refused k vs ≡ ends_verdict p.size v w → Joins p s v w (refused k vs) p s
+join_stopped p s v w k vs h = join_refused p v w s k vs (ends_stop _ _ ((unserved p v w, 11) ∷ (p.joins v w, 12) ∷ (eqb s 0, 14) ∷ []) k vs h)
+
+pub cut_stopped : (p : Plan) (s v w k : ℕ) (vs : List ℕ) → refused k vs ≡ ends_verdict p.size v w → Cuts p s v w (refused k vs) p s
+cut_stopped p s v w k vs h = cut_refused p v w s k vs (ends_stop _ _ ((unserved p v w, 11) ∷ (not (p.joins v w), 13) ∷ []) k vs h)

@@ -5,12 +5,12 @@
 ghost use Rattle.std.specs.Prelude.{List};
 ghost use Rattle.calls.specs.Heard.{Heard};
 
-use calls::{Answer, Listener};
+use calls::{Answer, Listener, Lists};
 use edge::{filled, read_input};
 use label::{Count, Either};
-use ledger_visit::{Listing, Maker, SHEET_LIMIT, visit};
 use plan::Junction;
 use std::io;
+use visit::{Listing, Maker, SHEET_LIMIT, visit};
 
 /// Prints each answer, as the lines of a listing. It keeps nothing of what it was told, so that it
 /// may have been told anything.
@@ -25,18 +25,8 @@ impl Listener for Printer<'_> {
 
     ghost log = { λ _ _. Unit {0} };
 
-    fn hear(
-        &mut self,
-        answer: Answer,
-        places: &[Junction],
-        ring: &[Junction],
-        _: &[u64],
-    ) -> io::Result<()> {
-        let listing = Listing {
-            answer,
-            places,
-            ring,
-        };
+    fn hear(&mut self, answer: Answer, lists: Lists<'_>) -> io::Result<()> {
+        let listing = Listing { answer, lists };
         print!(self.rt; "{listing}")
     }
 }

@@ -31,10 +31,7 @@ impl<R: Register> Set<R> {
         ensures answer { heard result ≡ load_checks (ledger R.ReadablePlan.meaning R.Register.left self.old) image.now }
         ensures ledger { ledger R.ReadablePlan.meaning R.Register.left self.new ≡ after (heard result) (with_loaded (ledger R.ReadablePlan.meaning R.Register.left self.old) image.now) (ledger R.ReadablePlan.meaning R.Register.left self.old) }
     {
-        let header = match check(image) {
-            Ok(header) => header,
-            Err(refusal) => return Err(refusal),
-        };
+        let header = check(image)?;
         if header.n != self.layer.size() {
             return Err(Refusal::OtherSize);
         }

@@ -13,6 +13,8 @@ use plan::{Junction, ReadablePlan, Refusal, Register};
 
 /// An isolation layer over a register. It is new while the register has no pipe and the layer has
 /// nothing shut.
+// Contracts name its ledger by the register's meaning each time: a model that showed the ledger
+// itself is refused, since a ledger holds functions and a model's value must not.
 #[derive(Drop)]
 pub struct Set<R> {
     pub(crate) layer: Isolation<R>,

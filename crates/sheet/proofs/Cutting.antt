@@ -1,19 +1,31 @@
 -- Cutting a list at its first stop byte.
-use Rattle.std.proofs.Common.{◌≡◌, ℕ, zero, suc, ◌-◌, ◌<◌, ◌≤◌, Bool, true, false, cond, eqb, List, [], ◌∷◌, ◌++◌, length, get_or, take, drop, sym, refl, ap, ◌∙◌, ap₂, arith, length-drop}
-use Rattle.std.proofs.lemmas.Bool.{eq-eqb, ne_eqb}
+use Rattle.std.proofs.Common.{◌≡◌, ℕ, suc, ◌+◌, ◌-◌, ◌≤◌, Bool, true, false, cond, not, eqb, List, [], ◌∷◌, ◌++◌, length, take, drop, refl, ap, arith, length-drop}
+use Rattle.std.proofs.lemmas.Bool.{eq-eqb}
+use Rattle.std.proofs.lemmas.Bool.Decides.{nat_tests}
+use Rattle.std.proofs.lemmas.List.Sums.{prefix_len-le-length}
+use Rattle.std.proofs.Math.Numerals.{one-add}
+use Rattle.std.specs.List.{position, position_or_len}
+use Rattle.std.specs.Option.{unwrap_or}
 use Rattle.sheet.specs.Lines.{front, back}
 
--- the first n bytes are no stops, and the next, if there is one, is
-pub cut_at : (stop : ℕ) (bs : List ℕ) (n : ℕ) → n ≤ length bs → ((k : ℕ) → k < n → get_or bs k 0 ≡ stop → ⊥) → (n < length bs → get_or bs n 0 ≡ stop) → (take n bs ≡ front stop bs) × (drop n bs ≡ back stop bs)
-cut_at stop [] zero l before here = (refl, refl)
-cut_at stop [] (suc n) l before here = absurd (omega arith)
-cut_at stop (b ∷ bs) zero l before here =
-    let e : eqb b stop ≡ true = eq-eqb b stop (here (omega arith)) in
-    (rw e refl, rw e refl)
-cut_at stop (b ∷ bs) (suc n) l before here =
-    let e : eqb b stop ≡ false = ne_eqb b stop (before 0 (omega arith)) in
-    let h : (take n bs ≡ front stop bs) × (drop n bs ≡ back stop bs) = cut_at stop bs n (omega arith) (λ k lt. before (suc k) (omega arith)) (λ lt. here (omega arith)) in
-    (rw e (ap (λ xs. b ∷ xs) h.0), rw e h.1)
+-- how many bytes stand before the first stop
+abbrev first_stop : ℕ → List ℕ → ℕ
+first_stop stop bs = position_or_len (λ b. eqb b stop) bs
+
+cut_at_first : (stop : ℕ) (bs : List ℕ) → (take (first_stop stop bs) bs ≡ front stop bs) × (drop (first_stop stop bs) bs ≡ back stop bs)
+cut_at_first stop [] = (refl, refl)
+cut_at_first stop (b ∷ bs) = go (eqb b stop) (cut_at_first stop bs)
+  where
+    go : (t : Bool) → (take (first_stop stop bs) bs ≡ front stop bs) × (drop (first_stop stop bs) bs ≡ back stop bs) → (take (cond (not t) (1 + first_stop stop bs) 0) (b ∷ bs) ≡ cond t [] (b ∷ front stop bs)) × (drop (cond (not t) (1 + first_stop stop bs) 0) (b ∷ bs) ≡ cond t (b ∷ bs) (back stop bs))
+    go true h = (refl, refl)
+    go false h = (rw one-add (ap (λ xs. b ∷ xs) h.0), rw one-add h.1)
+
+-- the place that a search for the stop answers, or the length, cuts the list
+pub cut_at_position : (stop : ℕ) (bs : List ℕ) (n : ℕ) → n ≡ unwrap_or (position (λ b. eqb b stop) bs) (length bs) → (take n bs ≡ front stop bs) × (drop n bs ≡ back stop bs)
+cut_at_position stop bs n e =
+    let short = prefix_len-le-length (λ b. not (eqb b stop)) bs in
+    let is : n ≡ first_stop stop bs = grind (arith, nat_tests) in
+    rw is (cut_at_first stop bs)
 
 -- the two parts make up the whole
 pub front-back : (stop : ℕ) (bs : List ℕ) → front stop bs ++ back stop bs ≡ bs

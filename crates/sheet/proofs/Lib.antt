@@ -1,4 +1,5 @@
 pub mod Cutting
+pub mod FirstLines
 pub mod Numerals
 pub mod OneLine
 pub mod Spelling

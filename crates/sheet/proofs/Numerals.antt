@@ -1,67 +1,66 @@
--- Reading a number, digit by digit.
-use Rattle.std.proofs.Common.{◌≡◌, ℕ, zero, suc, ◌+◌, ◌-◌, ◌*◌, ◌^◌, ◌<◌, ◌≤◌, Bool, true, false, cond, ◌&&◌, eqb, leb, ◌⊎◌, List, [], ◌∷◌, length, get_or, drop, sym, refl, ap, ◌∙◌, inl, inr, pow-suc, add-one, arith}
-use Rattle.std.proofs.lemmas.List.{at_drop_more, at_drop_all}
-use Rattle.std.proofs.lemmas.Bool.{and_parts, le-leb, lt-leb, leb-true, ne_eqb, not_from_false}
+-- Reading a number.
+use Rattle.std.proofs.Common.{◌≡◌, ℕ, ◌^◌, ◌<◌, ◌≤◌, true, cond, ◌&&◌, leb, List, [], ◌∷◌, length, get_or, decimal, Some, None, Result, Ok, Err, refl, ap, arith, rules}
 use Rattle.std.proofs.lemmas.Bool.Decides.{nat_tests}
+use Rattle.std.proofs.lemmas.Fmt.{decimal-digits_value, length-decimal-le}
+use Rattle.std.proofs.lemmas.Str.{IsUtf8-from_ascii}
+use Rattle.std.proofs.lemmas.Str.Ascii.{IsAscii-from_reads}
+use Rattle.std.proofs.lemmas.Str.Parse.{IsNumeralModel, numerals_by_fold, parse_digits, digit_at}
+use Rattle.std.specs.List.{list_all}
+use Rattle.std.specs.Result.{OkIff, result_ok}
+use Rattle.std.specs.Str.{IsUtf8}
+use Rattle.std.specs.Str.Parse.{ParsesUnsigned}
 use Rattle.sheet.specs.Fields.{digits, plain, numeral, value_after}
 use Rattle.sheet.proofs.Cutting.{Free}
 
--- after i digits of a text: their value, and what is left to read
-pub record Valued (text : List ℕ) (i value : ℕ) : Type 0 where
-  pub small : value < 10 ^ i
-  pub whole : value_after value (drop i text) ≡ value_after 0 text
-  pub rest : digits (drop i text) ≡ digits text
+-- the sheet's digits and values are those of the decimal numerals
+pub own : IsNumeralModel (λ ds. digits ds ≡ true) (value_after 0)
+own = numerals_by_fold (λ ds. digits ds ≡ true) (search rules) value_after (search rules)
 
-is_digit : (b : ℕ) → 48 ≤ b → b ≤ 57 → (leb 48 b && leb b 57) ≡ true
-is_digit b lo hi = grind (arith, nat_tests)
+-- digits are the bytes that all pass the test of a digit
+pub digits_all : (text : List ℕ) → digits text ≡ list_all (λ b. leb 48 b && leb b 57) text
+digits_all [] = refl
+digits_all (b ∷ bs) = ap (λ t. (leb 48 b && leb b 57) && t) (digits_all bs)
 
-no_digit : (b : ℕ) → (b < 48) ⊎ (57 < b) → (leb 48 b && leb b 57) ≡ false
-no_digit b (inl h) = grind (arith, nat_tests)
-no_digit b (inr h) = grind (arith, nat_tests)
+-- digits are text
+pub digits_text : (text : List ℕ) → digits text ≡ true → IsUtf8 text
+digits_text text h = IsUtf8-from_ascii text (IsAscii-from_reads text (length text) (omega arith) (λ k l. omega (arith, digit_at text k (own.to text h) l)))
 
-module _ (text : List ℕ) (i value : ℕ) (h : Valued text i value) where
-  drop_digit : (b : ℕ) (i : ℕ) → i < length text → b ≡ get_or text i 0 → 48 ≤ b → b ≤ 57 → digits (drop i text) ≡ digits (drop (i + 1) text)
-  drop_digit b i l e lo hi =
-      let d : (leb 48 (get_or text i 0) && leb (get_or text i 0) 57) ≡ true = rw e at (is_digit b lo hi) in
-      at_drop_more digits text i 0 l ∙ ap (λ t. t && digits (drop (i + 1) text)) d
+-- no needless zero in front
+pub alone : (text : List ℕ) → plain text ≡ true → 0 < length text → get_or text 0 0 ≡ 48 → length text ≡ 1
+alone [] h l e = absurd (omega arith)
+alone (b ∷ []) h l e = refl
+alone (b ∷ c ∷ text) h l e = grind (arith, nat_tests)
 
-  pub valued_more : (b : ℕ) → i < length text → b ≡ get_or text i 0 → 48 ≤ b → b ≤ 57 → Valued text (i + 1) (value * 10 + (b - 48))
-  valued_more b l e lo hi = record {
-    small = rw (add-one, pow-suc) (omega (arith, h.small));
-    whole = ap (λ x. value_after (value * 10 + (x - 48)) (drop (i + 1) text)) e ∙ sym (at_drop_more (value_after value) text i 0 l) ∙ h.whole;
-    rest = sym (drop_digit b i l e lo hi) ∙ h.rest;
-  }
+-- a number of at most 65,535 has at most five digits
+few : (text : List ℕ) → plain text ≡ true → digits text ≡ true → 0 < length text → value_after 0 text ≤ 65535 → length text ≤ 5
+few text p d l v =
+    let e : decimal (value_after 0 text) ≡ text = decimal-digits_value own text d l (alone text p l) (omega arith) in
+    omega (arith, ap length e, length-decimal-le 5 (value_after 0 text) (omega arith) (omega arith) (omega arith))
 
-  pub not_digits : (b : ℕ) → i < length text → b ≡ get_or text i 0 → (b < 48) ⊎ (57 < b) → digits text ≡ false
-  not_digits b l e bad =
-      let d : (leb 48 (get_or text i 0) && leb (get_or text i 0) 57) ≡ false = rw e at (no_digit b bad) in
-      sym h.rest ∙ at_drop_more digits text i 0 l ∙ ap (λ t. t && digits (drop (i + 1) text)) d
+-- what parsing digits answers
+pub parsed : {E : Type 0} (text : List ℕ) (r : Result ℕ E) → plain text ≡ true → digits text ≡ true → ParsesUnsigned 16 10 text r → result_ok r ≡ cond (numeral text) (Some (value_after 0 text)) None
+parsed {E} text r p d h = go r (parse_digits own 16 text r h d)
+  where
+    go : (r : Result ℕ E) → OkIff r ((0 < length text) × (value_after 0 text < 2 ^ 16)) (value_after 0 text) → result_ok r ≡ cond (numeral text) (Some (value_after 0 text)) None
+    go (Ok x) k = let l = few text p d k.0.0 in grind (arith, nat_tests)
+    go (Err e) k = grind (arith, nat_tests)
 
-  pub valued_all : length text ≤ i → (value ≡ value_after 0 text) × (digits text ≡ true)
-  valued_all l = (sym (at_drop_all (value_after value) text i l) ∙ h.whole, sym h.rest ∙ at_drop_all digits text i l)
-
--- what each of the rule's parts decides
-pub no_numeral_by_digits : (text : List ℕ) → digits text ≡ false → numeral text ≡ false
-no_numeral_by_digits text h = grind (arith, nat_tests)
-
-pub no_numeral_by_value : (text : List ℕ) → 65535 < value_after 0 text → numeral text ≡ false
-no_numeral_by_value text h = let e : leb (value_after 0 text) 65535 ≡ false = lt-leb _ _ h in grind (arith, nat_tests)
-
+-- the rule of a number, by its parts
 pub numeral_from : (text : List ℕ) → 1 ≤ length text → length text ≤ 5 → plain text ≡ true → digits text ≡ true → value_after 0 text ≤ 65535 → numeral text ≡ true
-numeral_from text a b p d v = let e : leb (value_after 0 text) 65535 ≡ true = le-leb _ _ v in grind (arith, nat_tests)
+numeral_from text a b p d v = grind (arith, nat_tests)
+
+pub numeral_parts : (text : List ℕ) → numeral text ≡ true → (1 ≤ length text) × (plain text ≡ true) × (digits text ≡ true) × (value_after 0 text ≤ 65535)
+numeral_parts text h = (grind (arith, nat_tests), grind (arith, nat_tests), grind (arith, nat_tests), grind (arith, nat_tests))
 
 pub plain_from : (text : List ℕ) → (1 < length text → get_or text 0 0 ≡ 48 → ⊥) → plain text ≡ true
 plain_from [] h = refl
 plain_from (b ∷ []) h = refl
-plain_from (b ∷ c ∷ bs) h = not_from_false _ (ne_eqb b 48 (h (omega arith)))
+plain_from (b ∷ c ∷ bs) h = grind (arith, nat_tests)
 
--- digits hold no blank
-pub numeral_free : (text : List ℕ) → digits text ≡ true → Free 32 text
-numeral_free [] h = tt
-numeral_free (b ∷ bs) h =
-    let p = and_parts (leb 48 b && leb b 57) (digits bs) h in
-    let q = and_parts (leb 48 b) (leb b 57) p.0 in
-    (ne_eqb b 32 (λ e. omega (arith, leb-true 48 b q.0)), numeral_free bs p.1)
+-- a number holds no blank
+digits_free : (text : List ℕ) → digits text ≡ true → Free 32 text
+digits_free [] h = tt
+digits_free (b ∷ bs) h = (grind (arith, nat_tests), digits_free bs (grind (arith, nat_tests)))
 
-pub numeral-digits : (text : List ℕ) → numeral text ≡ true → digits text ≡ true
-numeral-digits text h = grind (arith, nat_tests)
+pub numeral_free : (text : List ℕ) → numeral text ≡ true → Free 32 text
+numeral_free text h = digits_free text (numeral_parts text h).2

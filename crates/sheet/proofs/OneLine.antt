@@ -1,35 +1,18 @@
 -- The one line of a call: a number of a line is its decimal digits.
-use Rattle.std.proofs.Common.{◌≡◌, ℕ, ◌^◌, ◌<◌, ◌≤◌, true, ◌&&◌, eqb, leb, ◌⊎◌, List, [], ◌∷◌, ◌++◌, length, get_or, decimal, sym, refl, ap, ◌∙◌, ap₂, inl, inr, arith, rules}
+use Rattle.std.proofs.Common.{◌≡◌, ℕ, ◌^◌, ◌<◌, ◌≤◌, true, ◌⊎◌, List, ◌∷◌, ◌++◌, length, get_or, decimal, sym, refl, ap, ◌∙◌, ap₂, inl, inr, arith}
 use Rattle.std.proofs.lemmas.Fmt.{decimal-digits_value, digits_decimal, digits_value-decimal, decimal_nonempty, decimal_digit, first_decimal, length-decimal-le}
-use Rattle.std.proofs.lemmas.Str.Parse.{IsNumeralModel, numerals_by_fold}
-use Rattle.std.proofs.lemmas.Bool.{cases_eq, and_parts, eq-eqb, leb-true}
-use Rattle.std.proofs.lemmas.Bool.Decides.{nat_tests}
+use Rattle.std.proofs.lemmas.Bool.{cases_eq}
 use Rattle.sheet.specs.Calls.{Numeral, One, Two, Spells}
-use Rattle.sheet.specs.Fields.{digits, plain, value_after}
+use Rattle.sheet.specs.Fields.{plain, value_after}
 use Rattle.sheet.specs.Laws.{line_of, Fitting}
 use Rattle.sheet.specs.declared.call.Call.{Call}
 use Rattle.sheet.specs.declared.call.Call.TheVariants.{New, Join, Cut, Shut, Open, OrderLexicographic, OrderCounting}
-use Rattle.sheet.proofs.Numerals.{numeral_from, plain_from}
-
--- the sheet's digits and values are those of the decimal numerals
-own : IsNumeralModel (λ ds. digits ds ≡ true) (value_after 0)
-own = numerals_by_fold (λ ds. digits ds ≡ true) (search rules) value_after (search rules)
-
--- no needless zero in front
-alone : (a : List ℕ) → plain a ≡ true → 0 < length a → get_or a 0 0 ≡ 48 → length a ≡ 1
-alone [] h l e = absurd (omega arith)
-alone (b ∷ []) h l e = refl
-alone (b ∷ c ∷ a) h l e = let f : eqb b 48 ≡ true = eq-eqb b 48 e in grind (arith, nat_tests)
+use Rattle.sheet.proofs.Numerals.{own, alone, numeral_from, numeral_parts, plain_from}
 
 pub numeral_is : (a : List ℕ) (n : ℕ) → Numeral a n → a ≡ decimal n
 numeral_is a n h =
-    let p = and_parts (leb 1 (length a) && leb (length a) 5 && plain a && digits a) (leb (value_after 0 a) 65535) h.0 in
-    let q = and_parts (leb 1 (length a) && leb (length a) 5 && plain a) (digits a) p.0 in
-    let r = and_parts (leb 1 (length a) && leb (length a) 5) (plain a) q.0 in
-    let t = and_parts (leb 1 (length a)) (leb (length a) 5) r.0 in
-    let some : 1 ≤ length a = leb-true 1 (length a) t.0 in
-    let few : value_after 0 a ≤ 65535 = leb-true (value_after 0 a) 65535 p.1 in
-    sym (ap decimal h.1 ∙ decimal-digits_value own a q.1 some (alone a r.1 some) (omega (arith, few)))
+    let p = numeral_parts a h.0 in
+    sym (ap decimal h.1 ∙ decimal-digits_value own a p.2 p.0 (alone a p.1 p.0) (omega (arith, p.3)))
 
 decimal_plain : (n : ℕ) → n < 2 ^ 64 → plain (decimal n) ≡ true
 decimal_plain n l = plain_from (decimal n) (go (cases_eq n 0))

@@ -1,50 +1,21 @@
 -- From the parts of a line to the call that it spells, and back.
-use Rattle.std.proofs.Common.{◌≡◌, ℕ, Bool, true, false, cond, ◌&&◌, eqb, ◌⊎◌, List, [], ◌∷◌, ◌++◌, get_or, drop, Some, None, Option, sym, refl, ap, ◌∙◌, inl, inr, append-nil, arith}
-use Rattle.std.proofs.lemmas.Bool.{eq-eqb, eqb-true, and_parts, and_from}
-use Rattle.sheet.specs.Arguments.{numbered, number_of, behind}
-use Rattle.sheet.specs.Calls.{Numeral, One, Two, Spells}
-use Rattle.sheet.specs.Fields.{numeral, verb, value_after, sort, a_verb, a_number, a_word}
-use Rattle.sheet.specs.Lines.{front, back}
+use Rattle.std.proofs.Common.{◌≡◌, ℕ, true, false, ◌||◌, eqb, List, [], ◌∷◌, ◌++◌, get_or, Some, None, Option, sym, refl, ap, ◌∙◌, subst, append-nil, arith}
+use Rattle.std.proofs.lemmas.Bool.{eqb-true, and_parts}
+use Rattle.std.proofs.lemmas.Bool.Decides.{nat_tests}
+use Rattle.std.specs.Option.{option_map}
+use Rattle.sheet.specs.Arguments.{numbered, number_of, behind, OneArgument, TwoArguments}
+use Rattle.sheet.specs.Calls.{Numeral, One, Two, Spells, Spelled}
+use Rattle.sheet.specs.Fields.{Read, numeral, sort, sort_of, text_of, a_verb}
+use Rattle.sheet.specs.Lines.{front}
 use Rattle.sheet.specs.declared.call.Call.{Call}
 use Rattle.sheet.specs.declared.call.Call.TheVariants.{New, Join, Cut, Shut, Open, OrderLexicographic, OrderCounting}
+use Rattle.sheet.specs.declared.field.Field.{Field}
 use Rattle.sheet.proofs.Cutting.{front-back, front_free, front_all}
-use Rattle.sheet.proofs.Numerals.{numeral_free, numeral-digits}
-
-chose_some : (t : Bool) (v n : ℕ) → Some n ≡ cond t (Some v) None → (t ≡ true) × (n ≡ v)
-chose_some true v n e = (refl, cc)
-chose_some false v n e = let z : ◌≡◌ {A = ℕ} 0 1 = cc in absurd (omega arith)
-
-chose_none : (t : Bool) (v : ℕ) → None ≡ cond t (Some v) None → t ≡ false
-chose_none true v e = let z : ◌≡◌ {A = ℕ} 0 1 = cc in absurd (omega arith)
-chose_none false v e = refl
-
--- the rest of a line begins with a blank, and tail, text and after are cut from what follows
-pub record Blanked (rest tail text after : List ℕ) : Type 0 where
-  pub blank : get_or rest 0 0 ≡ 32
-  pub tail_is : tail ≡ drop 1 rest
-  pub text_is : text ≡ front 32 tail
-  pub after_is : after ≡ back 32 tail
-
-module _ (text after : List ℕ) where
-  pub argument_found : (rest tail : List ℕ) (n : ℕ) → Blanked rest tail text after → Some n ≡ cond (numeral text) (Some (value_after 0 text)) None → (numbered rest ≡ true) × (n ≡ number_of rest) × (after ≡ behind rest)
-  argument_found [] tail n h e = absurd (omega (arith, h.blank))
-  argument_found (b ∷ bs) tail n h e =
-      let t : tail ≡ bs = h.tail_is in
-      let x : text ≡ front 32 bs = h.text_is ∙ ap (front 32) t in
-      let r = chose_some (numeral text) (value_after 0 text) n e in
-      (and_from _ _ (eq-eqb b 32 h.blank) (sym (ap numeral x) ∙ r.0), r.1 ∙ ap (value_after 0) x, h.after_is ∙ ap (back 32) t)
-
-  pub argument_missing : (rest tail : List ℕ) → Blanked rest tail text after → None ≡ cond (numeral text) (Some (value_after 0 text)) None → numbered rest ≡ false
-  argument_missing [] tail h e = refl
-  argument_missing (b ∷ bs) tail h e =
-      let x : text ≡ front 32 bs = h.text_is ∙ ap (front 32) h.tail_is in
-      let q : numeral (front 32 bs) ≡ false = sym (ap numeral x) ∙ chose_none (numeral text) (value_after 0 text) e in
-      let p : eqb b 32 ≡ true = eq-eqb b 32 h.blank in
-      rw (p, q) refl
+use Rattle.sheet.proofs.Numerals.{numeral_free}
 
 -- a number behind a blank, and what follows
 pub numbered_splits : (rest : List ℕ) → numbered rest ≡ true → (a : List ℕ) × (rest ≡ 32 ∷ (a ++ behind rest)) × Numeral a (number_of rest)
-numbered_splits [] h = let z : ◌≡◌ {A = ℕ} 0 1 = cc in absurd (omega arith)
+numbered_splits [] h = cc
 numbered_splits (b ∷ bs) h =
     let p = and_parts (eqb b 32) (numeral (front 32 bs)) h in
     (front 32 bs, ap (λ x. x ∷ bs) (eqb-true b 32 p.0) ∙ ap (λ xs. 32 ∷ xs) (sym (front-back 32 bs)), (p.1, refl))
@@ -68,7 +39,7 @@ pub one_read : (letter b : ℕ) (rest : List ℕ) (n : ℕ) → One letter (b �
 one_read letter b rest n h =
     let a = h.0 in
     let s = same_tail b letter rest (32 ∷ a) h.1 in
-    let f = front_all 32 a (numeral_free a (numeral-digits a h.2.0)) in
+    let f = front_all 32 a (numeral_free a h.2.0) in
     let num : numeral (front 32 a) ≡ true = ap numeral f.0 ∙ h.2.0 in
     (s.0, ap numbered s.1 ∙ num, ap behind s.1 ∙ f.1)
 
@@ -77,8 +48,8 @@ two_read letter b rest m n h =
     let a = h.0 in
     let d = h.1 in
     let s = same_tail b letter rest (32 ∷ (a ++ 32 ∷ d)) h.2 in
-    let f = front_free 32 a d (numeral_free a (numeral-digits a h.3.0)) in
-    let g = front_all 32 d (numeral_free d (numeral-digits d h.4.0)) in
+    let f = front_free 32 a d (numeral_free a h.3.0) in
+    let g = front_all 32 d (numeral_free d h.4.0) in
     let next : behind rest ≡ 32 ∷ d = ap behind s.1 ∙ f.1 in
     let num : numeral (front 32 (a ++ 32 ∷ d)) ≡ true = ap numeral f.0 ∙ h.3.0 in
     let num' : numeral (front 32 d) ≡ true = ap numeral g.0 ∙ h.4.0 in
@@ -113,50 +84,44 @@ spelled_read b rest (Open v) h = let r = one_read 79 b rest v.0 h in (r.0, (r.1,
 spelled_read b rest OrderLexicographic h = same_tail b 76 rest [] h
 spelled_read b rest OrderCounting h = same_tail b 75 rest [] h
 
--- where the verb's letter and what follows it fit no call, the line spells none
-module _ (b : ℕ) (rest : List ℕ) where
-  pub none_with_one : (b ≡ 74 → ⊥) → (b ≡ 67 → ⊥) → (b ≡ 76 → ⊥) → (b ≡ 75 → ⊥) → (numbered rest ≡ true → behind rest ≡ [] → ⊥) → (c : Call) → Spells (b ∷ rest) c → ⊥
-  none_with_one j c l k h call s = go call (spelled_read b rest call s)
-    where
-      go : (call : Call) → (b ≡ letter_of call) × Follows rest call → ⊥
-      go (New n) r = h r.1.0 r.1.1
-      go (Join v w) r = j r.0
-      go (Cut v w) r = c r.0
-      go (Shut v) r = h r.1.0 r.1.1
-      go (Open v) r = h r.1.0 r.1.1
-      go OrderLexicographic r = l r.0
-      go OrderCounting r = k r.0
+-- the call of a letter that takes one number, made of what was read behind the letter
+pub with_one : (b : ℕ) (rest : List ℕ) (o : Option ℕ) (c : Option Call) (make : ℕ → Call) → (eqb b 74 || eqb b 67 || eqb b 76 || eqb b 75) ≡ false → ((n : ℕ) → One b (b ∷ rest) n → Spells (b ∷ rest) (make n)) → OneArgument rest o → c ≡ option_map make o → Spelled (b ∷ rest) c
+with_one b rest (Some n) c make other spells h e = rw e (spells n (spelled_one b rest n h.0 h.1 h.2))
+with_one b rest None c make other spells h e = rw e (λ call s. go call (spelled_read b rest call s))
+  where
+    go : (call : Call) → (b ≡ letter_of call) × Follows rest call → ⊥
+    go (New n) r = h r.1.0 r.1.1
+    go (Join v w) r = grind (arith, nat_tests)
+    go (Cut v w) r = grind (arith, nat_tests)
+    go (Shut v) r = h r.1.0 r.1.1
+    go (Open v) r = h r.1.0 r.1.1
+    go OrderLexicographic r = grind (arith, nat_tests)
+    go OrderCounting r = grind (arith, nat_tests)
 
-  pub none_with_two : (b ≡ 78 → ⊥) → (b ≡ 83 → ⊥) → (b ≡ 79 → ⊥) → (b ≡ 76 → ⊥) → (b ≡ 75 → ⊥) → (numbered rest ≡ true → numbered (behind rest) ≡ true → behind (behind rest) ≡ [] → ⊥) → (c : Call) → Spells (b ∷ rest) c → ⊥
-  none_with_two n s o l k h call t = go call (spelled_read b rest call t)
-    where
-      go : (call : Call) → (b ≡ letter_of call) × Follows rest call → ⊥
-      go (New m) r = n r.0
-      go (Join v w) r = h r.1.0 r.1.1 r.1.2
-      go (Cut v w) r = h r.1.0 r.1.1 r.1.2
-      go (Shut v) r = s r.0
-      go (Open v) r = o r.0
-      go OrderLexicographic r = l r.0
-      go OrderCounting r = k r.0
-
-  pub none_alone : (b ≡ 78 → ⊥) → (b ≡ 74 → ⊥) → (b ≡ 67 → ⊥) → (b ≡ 83 → ⊥) → (b ≡ 79 → ⊥) → ((b ≡ 76) ⊎ (b ≡ 75) → rest ≡ [] → ⊥) → (c : Call) → Spells (b ∷ rest) c → ⊥
-  none_alone n j c s o h call t = go call (spelled_read b rest call t)
-    where
-      go : (call : Call) → (b ≡ letter_of call) × Follows rest call → ⊥
-      go (New m) r = n r.0
-      go (Join v w) r = j r.0
-      go (Cut v w) r = c r.0
-      go (Shut v) r = s r.0
-      go (Open v) r = o r.0
-      go OrderLexicographic r = h (inl r.0) r.1
-      go OrderCounting r = h (inr r.0) r.1
+-- the same of a letter that takes two numbers
+pub with_two : (b : ℕ) (rest : List ℕ) (o : Option (ℕ × ℕ)) (c : Option Call) (make : ℕ × ℕ → Call) → (eqb b 78 || eqb b 83 || eqb b 79 || eqb b 76 || eqb b 75) ≡ false → ((x : ℕ × ℕ) → Two b (b ∷ rest) x.0 x.1 → Spells (b ∷ rest) (make x)) → TwoArguments rest o → c ≡ option_map make o → Spelled (b ∷ rest) c
+with_two b rest (Some x) c make other spells h e = rw e (spells x (spelled_two b rest x.0 x.1 h.0 h.1 h.2 h.3 h.4))
+with_two b rest None c make other spells h e = rw e (λ call s. go call (spelled_read b rest call s))
+  where
+    go : (call : Call) → (b ≡ letter_of call) × Follows rest call → ⊥
+    go (New n) r = grind (arith, nat_tests)
+    go (Join v w) r = h r.1.0 r.1.1 r.1.2
+    go (Cut v w) r = h r.1.0 r.1.1 r.1.2
+    go (Shut v) r = grind (arith, nat_tests)
+    go (Open v) r = grind (arith, nat_tests)
+    go OrderLexicographic r = grind (arith, nat_tests)
+    go OrderCounting r = grind (arith, nat_tests)
 
 -- a verb is one letter
-pub verb_alone : (xs : List ℕ) → a_verb ≡ sort xs → xs ≡ get_or xs 0 0 ∷ []
-verb_alone [] h = let z : ◌≡◌ {A = ℕ} 0 1 = cc in absurd (omega arith)
+verb_alone : (xs : List ℕ) → a_verb ≡ sort xs → xs ≡ get_or xs 0 0 ∷ []
+verb_alone [] h = cc
 verb_alone (x ∷ []) h = refl
-verb_alone (x ∷ y ∷ xs) h = absurd (go (numeral (x ∷ y ∷ xs)) h)
-  where
-    go : (t : Bool) → a_verb ≡ cond t a_number a_word → ⊥
-    go true e = let z : ◌≡◌ {A = ℕ} 0 1 = cc in omega arith
-    go false e = let z : ◌≡◌ {A = ℕ} 0 1 = cc in omega arith
+verb_alone (x ∷ y ∷ xs) h = grind (arith, nat_tests)
+
+-- a line whose first field is a verb spells what the verb's letter and the rest spell
+pub spelled_line : (line rest : List ℕ) (field : Field) (b : ℕ) (c : Option Call) → Read line 0 field rest → sort_of field ≡ a_verb → get_or (text_of field) 0 0 ≡ b → Spelled (b ∷ rest) c → Spelled line c
+spelled_line line rest field b c read kind letter h =
+    let text : text_of field ≡ front 32 line = read.text in
+    let alone : text_of field ≡ b ∷ [] = verb_alone (text_of field) (sym kind ∙ read.kind ∙ ap sort (sym text)) ∙ ap (λ x. x ∷ []) letter in
+    let whole : b ∷ rest ≡ line = ap (λ xs. xs ++ rest) (sym alone ∙ text) ∙ ap (λ xs. front 32 line ++ xs) read.left ∙ front-back 32 line in
+    subst (λ xs. Spelled xs c) whole h

@@ -6,7 +6,7 @@ use Rattle.sheet.specs.Fields.{value_after}
 use Rattle.sheet.specs.declared.call.Call.{Call}
 use Rattle.sheet.specs.declared.call.Call.TheVariants.{New, Join, Cut, Shut, Open, OrderLexicographic, OrderCounting}
 use Rattle.sheet.proofs.Cutting.{front_free, front_all}
-use Rattle.sheet.proofs.Numerals.{numeral_free, numeral-digits}
+use Rattle.sheet.proofs.Numerals.{numeral_free}
 
 -- the call of a letter and two numbers
 abbrev call_by : ℕ → ℕ → ℕ → Call
@@ -19,14 +19,14 @@ call_of line = call_by (get_or line 0 0) (number_of (drop 1 line)) (number_of (b
 
 -- one number behind a blank
 last_number : (a : List ℕ) (n : ℕ) → Numeral a n → n ≡ number_of (32 ∷ a)
-last_number a n h = h.1 ∙ ap (value_after 0) (sym (front_all 32 a (numeral_free a (numeral-digits a h.0))).0)
+last_number a n h = h.1 ∙ ap (value_after 0) (sym (front_all 32 a (numeral_free a h.0)).0)
 
 -- two numbers, each behind a blank
 first_number : (a b : List ℕ) (m : ℕ) → Numeral a m → m ≡ number_of (32 ∷ (a ++ 32 ∷ b))
-first_number a b m h = h.1 ∙ ap (value_after 0) (sym (front_free 32 a b (numeral_free a (numeral-digits a h.0))).0)
+first_number a b m h = h.1 ∙ ap (value_after 0) (sym (front_free 32 a b (numeral_free a h.0)).0)
 
 second_number : (a b : List ℕ) (m n : ℕ) → Numeral a m → Numeral b n → n ≡ number_of (behind (32 ∷ (a ++ 32 ∷ b)))
-second_number a b m n h k = last_number b n k ∙ ap number_of (sym (front_free 32 a b (numeral_free a (numeral-digits a h.0))).1)
+second_number a b m n h k = last_number b n k ∙ ap number_of (sym (front_free 32 a b (numeral_free a h.0)).1)
 
 pub spells_is : (line : List ℕ) (c : Call) → Spells line c → c ≡ call_of line
 spells_is line (New n) h = ap (λ m. New m) (last_number h.0 n h.2) ∙ ap call_of (sym h.1)

@@ -1,5 +1,5 @@
 -- Lists of bytes cut at a stop byte.
-use Rattle.std.specs.Prelude.{ℕ, Bool, true, false, cond, List, [], ◌∷◌, ◌==◌}
+use Rattle.std.specs.Prelude.{ℕ, cond, List, [], ◌∷◌, ◌==◌}
 
 -- the bytes before the first stop, or all where there is none
 abbrev pub front : ℕ → List ℕ → List ℕ

@@ -1,12 +1,12 @@
 //! Fields of a line.
-ghost use Rattle.std.specs.Prelude.{◌≡◌, drop, if◌then◌else◌, Some, None};
-ghost use Rattle.sheet.specs.Fields.{Read, verb, letter, numeral, value_after, sort, sort_of, text_of, place_of};
+ghost use Rattle.std.specs.Prelude.{◌≡◌, ◌&&◌, drop, if◌then◌else◌, Some, None};
+ghost use Rattle.sheet.specs.Fields.{Read, digits, plain, numeral, value_after, sort, sort_of, text_of, place_of};
 
 use crate::line::split;
 
 /// A field of a line: a verb, a number or a stray word, each the bytes of the sheet that it is,
 /// and the place in its line where they begin.
-#[derive(Clone, Copy)]
+#[derive(Clone, Copy, PartialEq, Eq, Debug)]
 pub enum Field<'a> {
     Verb(&'a [u8], usize),
     Number(&'a [u8], usize),
@@ -27,10 +27,7 @@ pub fn read_field<'a>(line: &'a [u8], at: usize) -> (Field<'a>, &'a [u8])
 fn tail(line: &[u8], at: usize) -> &[u8]
     ensures { result.now ≡ drop at line.now }
 {
-    if at >= line.len() {
-        return &line[line.len()..];
-    }
-    &line[at..]
+    line.get(at..).unwrap_or(&[])
 }
 
 // The field that the bytes are.
@@ -39,31 +36,10 @@ fn classify<'a>(text: &'a [u8], at: usize) -> Field<'a>
     ensures kind { sort_of result ≡ sort text.now }
     ensures place { place_of result ≡ at }
 {
-    if is_verb(text) {
-        return Field::Verb(text, at);
-    }
-    match number(text) {
-        Some(_) => Field::Number(text, at),
-        None => Field::Word(text, at),
-    }
-}
-
-// Whether the bytes are one of the letters that stand for a verb.
-fn is_verb(text: &[u8]) -> bool
-    ensures { result ≡ verb text.now }
-{
-    let [b] = text else {
-        return false;
-    };
-    is_letter(*b)
-}
-
-fn is_letter(b: u8) -> bool
-    ensures { result ≡ letter b }
-{
-    match b as char {
-        'N' | 'J' | 'C' | 'S' | 'O' | 'L' | 'K' => true,
-        _ => false,
+    match text {
+        [b'N' | b'J' | b'C' | b'S' | b'O' | b'L' | b'K'] => Field::Verb(text, at),
+        _ if number(text).is_some() => Field::Number(text, at),
+        _ => Field::Word(text, at),
     }
 }
 
@@ -71,21 +47,17 @@ fn is_letter(b: u8) -> bool
 pub(crate) fn number(text: &[u8]) -> Option<u16>
     ensures { result ≡ (if numeral text.now then Some (value_after 0 text.now) else None) }
 {
-    if text.len() < 1 || text.len() > 5 {
+    // Tested first, since parsing takes a sign and needless zeros too.
+    if !is_decimal(text) {
         return None;
     }
-    if text.len() > 1 && text[0] == b'0' {
-        return None;
-    }
-    let mut value: u32 = 0;
-    for b in text {
-        if *b < b'0' || *b > b'9' {
-            return None;
-        }
-        value = value * 10 + (*b - b'0') as u32;
-    }
-    if value > 65535 {
-        return None;
-    }
-    Some(value as u16)
+    let digits = str::from_utf8(text).ok()?;
+    u16::from_str_radix(digits, 10).ok()
+}
+
+// Whether the bytes are digits alone, with no needless zero in front.
+fn is_decimal(text: &[u8]) -> bool
+    ensures { result ≡ (plain text.now && digits text.now) }
+{
+    !matches!(text, [b'0', _, ..]) && text.iter().all(u8::is_ascii_digit)
 }

@@ -10,4 +10,4 @@ mod line;
 pub use call::{Call, read_call};
 pub use field::{Field, read_field};
 pub use laws::spelling_laws;
-pub use line::next_line;
+pub use line::{Lines, next_line};

@@ -1,1 +1,4 @@
+pub mod Kinds
+pub mod Listings
 pub mod Openings
+pub mod Visits

@@ -1,16 +1,12 @@
-//! A visit: a sheet of calls carried out, line by line, on a set over any register. Its maker and
-//! its listener promise nothing; `ledger_visit` has the visit whose course the ledger tells.
+//! A visit whose course is told by the ledger: a sheet of calls made, line by line, on a set over
+//! any register, with what the listener was told of each line.
 
 #![tactic(auto)]
 
-mod listener;
+mod listing;
 mod maker;
 mod run;
-#[cfg(test)]
-mod tests;
 
-pub use calls::Answer;
-pub use ledger_visit::{KindOfLabel, LabelOfVisit, Listing, SHEET_LIMIT};
-pub use listener::Listener;
+pub use listing::Listing;
 pub use maker::Maker;
-pub use run::visit;
+pub use run::{KindOfLabel, LabelOfVisit, SHEET_LIMIT, visit};

@@ -1,81 +1,35 @@
 //! The visit itself.
-ghost use Rattle.std.specs.Prelude.{◌≤◌, length};
-ghost use Rattle.visit.specs.Openings.{Shrunk};
+ghost use Rattle.std.specs.Prelude.{◌≡◌, ℕ, ◌*◌, Bool};
+ghost use Rattle.plan.specs.Memory.{KeptFrom};
+ghost use Rattle.order.specs.Reports.{short};
+ghost use Rattle.set.specs.Kept.{ledger};
+ghost use Rattle.calls.specs.Heard as told;
+ghost use Rattle.calls.specs.Heard.{lists_of};
+ghost use Rattle.visit.specs.Openings.{NewSize, SetCall, SetMade, LineRun, LinesHeard, Opening};
+ghost use Rattle.visit.specs.Visits.{with_set, Visit, Makes};
 
-use crate::listener::Listener;
 use crate::maker::Maker;
-use calls::Answer;
-use label::{Counting, Either, Lexicographic};
-use ledger_visit::{KindOfLabel, LabelOfVisit, SHEET_LIMIT};
-use plan::{Junction, Refusal, Register};
+use calls::{Call, Listener, Lists, Outcome, run};
+use label::{Count, Counting, Either, Lexicographic, MarkSet};
+use plan::{Junction, Refusal, Register, TurnedDown};
 use set::Set;
-use sheet::{Call, next_line, read_call};
+use sheet::{Call as Spelled, Lines, read_call};
 
-// A set that was made, with what is left of the sheet behind its line, or the sheet's end.
-enum Opened<'a, R> {
-    Made(Set<R>, &'a [u8]),
-    Ended,
-}
+/// The most bytes that a sheet may have.
+pub const SHEET_LIMIT: usize = 16384;
 
-/// Carries out the calls of a sheet, line by line, and lets the listener hear each answer. Before a
-/// set exists only the line that makes one is a call, and afterwards it is none. A sheet of more
-/// than 16,384 bytes is turned down whole, by 8.
-pub fn visit<M: Maker, L: Listener>(
+/// A visit orders by one of two kinds of label.
+pub type KindOfLabel = Either<Lexicographic, Counting>;
+
+/// A label of either kind.
+pub type LabelOfVisit = Either<MarkSet, Count>;
+
+/// Makes the calls of a sheet, line by line, and lets the listener hear each answer. Before a set
+/// exists only the line that makes one is a call, and afterwards it is none. A sheet of more than
+/// 16,384 bytes is turned down whole, by 8.
+pub fn visit<M: Maker + Drop, L: Listener>(
     sheet: &[u8],
-    maker: &mut M,
-    listener: &mut L,
-    places: &mut [Junction],
-    ring: &mut [Junction],
-    rows: &mut [u64],
-    labels: &mut [LabelOfVisit],
-    scratch: &mut [u16],
-) -> Result<(), L::Error> {
-    if sheet.len() > SHEET_LIMIT {
-        return listener.hear(Answer::Refused(Refusal::ShortMemory), places, ring);
-    }
-    match open_set(sheet, maker, listener)? {
-        Opened::Made(set, rest) => {
-            let mut set = set;
-            run_calls(
-                &mut set, sheet, rest, listener, places, ring, rows, labels, scratch,
-            )
-        }
-        Opened::Ended => Ok(()),
-    }
-}
-
-// Reads lines until one makes a set; every other is no call.
-fn open_set<'a, M: Maker, L: Listener>(
-    sheet: &'a [u8],
-    maker: &mut M,
-    listener: &mut L,
-) -> Result<Opened<'a, M::Made>, L::Error>
-    ensures { Shrunk sheet.now result }
-{
-    let mut rest = sheet;
-    while !rest.is_empty() {
-        let (line, next) = next_line(rest);
-        rest = next;
-        let answer = match read_call(line) {
-            Some(Call::New(n)) => match maker.make(n) {
-                Ok(register) => {
-                    listener.hear(Answer::Done, &[], &[])?;
-                    return Ok(Opened::Made(Set::new(register), rest));
-                }
-                Err(refusal) => Answer::Refused(refusal),
-            },
-            _ => Answer::Refused(Refusal::NoCall),
-        };
-        listener.hear(answer, &[], &[])?;
-    }
-    Ok(Opened::Ended)
-}
-
-// Carries out the calls of the rest of a sheet on a set.
-fn run_calls<R: Register, L: Listener>(
-    set: &mut Set<R>,
-    sheet: &[u8],
-    rest: &[u8],
+    maker: M,
     listener: &mut L,
     places: &mut [Junction],
     ring: &mut [Junction],
@@ -83,78 +37,131 @@ fn run_calls<R: Register, L: Listener>(
     labels: &mut [LabelOfVisit],
     scratch: &mut [u16],
 ) -> Result<(), L::Error>
-    requires { length rest.now ≤ length sheet.now }
+    ensures { (spare : M → ℕ → ℕ) (full : M → ℕ → Bool) → Makes M.Maker.makes M.Made.ReadablePlan.meaning M.Made.Register.left spare full → Visit (λ n. short n places.old ring.old rows.old labels.old scratch.old) (spare maker) (full maker) (lists_of places.old ring.old rows.old) sheet.now (lists_of places.new ring.new rows.new) (L.Listener.log listener.old) (L.Listener.log listener.new) labels.old labels.new scratch.old scratch.new result }
 {
-    let mut rest = rest;
-    while !rest.is_empty() {
-        let (line, next) = next_line(rest);
-        rest = next;
-        let answer = match read_call(line) {
-            Some(call) => carry_out(set, call, places, ring, rows, labels, scratch),
-            None => Answer::Refused(Refusal::NoCall),
-        };
-        listener.hear(answer, places, ring)?;
+    if sheet.len() > SHEET_LIMIT {
+        return listener.hear(Err(Refusal::ShortMemory), Lists { places, ring, rows });
+    }
+    match open_set(
+        Lines::new(sheet),
+        maker,
+        listener,
+        Lists { places, ring, rows },
+    )? {
+        Some((mut set, lines)) => run_lines(
+            &mut set, lines, listener, places, ring, rows, labels, scratch,
+        ),
+        None => Ok(()),
+    }
+}
+
+// Reads lines until one makes a set; every other is no call. Answers the set with the lines behind
+// its line, or `None` at the sheet's end. What is heard of the lines does not hang
+// on the memory for orders, whatever `tight` says of it.
+fn open_set<'a, M: Maker + Drop, L: Listener>(
+    lines: Lines<'a>,
+    maker: M,
+    listener: &mut L,
+    lists: Lists<'_>,
+) -> Result<Option<(Set<M::Made>, Lines<'a>)>, L::Error>
+    ensures { (tight : ℕ → Bool) (spare : M → ℕ → ℕ) (full : M → ℕ → Bool) → Makes M.Maker.makes M.Made.ReadablePlan.meaning M.Made.Register.left spare full → Opening tight (spare maker) (full maker) M.Made.ReadablePlan.meaning M.Made.Register.left (lists_of lists.entry.places.now lists.entry.ring.now lists.entry.rows.now) lines.entry.rest.now (L.Listener.log listener.old) (L.Listener.log listener.new) result }
+{
+    let mut maker = maker;
+    let mut lines = lines;
+    while let Some(line) = lines.next() {
+        match new_set(line, maker) {
+            Ok(set) => {
+                listener.hear(Ok(Outcome::Done), lists)?;
+                return Ok(Some((set, lines)));
+            }
+            Err(turned) => {
+                maker = turned.memory;
+                listener.hear(Err(turned.refusal), lists)?;
+            }
+        }
+    }
+    Ok(None)
+}
+
+// Makes the set that a line asks for; a line that asks for none is turned down by 7.
+fn new_set<M: Maker>(line: &[u8], maker: M) -> Result<Set<M::Made>, TurnedDown<M>>
+    ensures { (tight : ℕ → Bool) (before : told.Lists) (spare : M → ℕ → ℕ) (full : M → ℕ → Bool) → Makes M.Maker.makes M.Made.ReadablePlan.meaning M.Made.Register.left spare full → SetMade tight (spare maker) (full maker) M.Made.ReadablePlan.meaning M.Made.Register.left before line.now maker result }
+{
+    let Some(n) = new_size(line) else {
+        return Err(TurnedDown {
+            refusal: Refusal::NoCall,
+            memory: maker,
+        });
+    };
+    Ok(Set::new(maker.make(n)?))
+}
+
+// Makes the calls of lines on a set.
+fn run_lines<R: Register, L: Listener>(
+    set: &mut Set<R>,
+    lines: Lines<'_>,
+    listener: &mut L,
+    places: &mut [Junction],
+    ring: &mut [Junction],
+    rows: &mut [u64],
+    labels: &mut [LabelOfVisit],
+    scratch: &mut [u16],
+) -> Result<(), L::Error>
+    ensures heard { (spare : ℕ → ℕ) (full : ℕ → Bool) → LinesHeard (λ n. short n places.old ring.old rows.old labels.old scratch.old) spare full (with_set (ledger R.ReadablePlan.meaning R.Register.left set.old)) (lists_of places.old ring.old rows.old) lines.entry.rest.now (lists_of places.new ring.new rows.new) (L.Listener.log listener.old) (L.Listener.log listener.new) (with_set (ledger R.ReadablePlan.meaning R.Register.left set.new)) result }
+    ensures size { (ledger R.ReadablePlan.meaning R.Register.left set.new).base.size ≡ (ledger R.ReadablePlan.meaning R.Register.left set.old).base.size }
+    ensures labels { KeptFrom (ledger R.ReadablePlan.meaning R.Register.left set.old).base.size labels.old labels.new }
+    ensures scratch { KeptFrom (2 * (ledger R.ReadablePlan.meaning R.Register.left set.old).base.size) scratch.old scratch.new }
+{
+    for line in lines {
+        run_line(set, line, listener, places, ring, rows, labels, scratch)?;
     }
     Ok(())
 }
 
-// Carries out one call on a set.
-fn carry_out<R: Register>(
+// Makes the call of a line on a set; a line that spells none is turned down by 7.
+fn run_line<R: Register, L: Listener>(
     set: &mut Set<R>,
-    call: Call,
+    line: &[u8],
+    listener: &mut L,
     places: &mut [Junction],
     ring: &mut [Junction],
     rows: &mut [u64],
     labels: &mut [LabelOfVisit],
     scratch: &mut [u16],
-) -> Answer {
-    match call {
-        Call::New(_) => Answer::Refused(Refusal::NoCall),
-        Call::Join(v, w) => done(set.join(v, w)),
-        Call::Cut(v, w) => done(set.cut(v, w)),
-        Call::Shut(v) => done(set.shut(v)),
-        Call::Open(v) => done(set.open(v)),
-        Call::OrderLexicographic => ordered(
-            set,
-            Either::First(Lexicographic),
-            places,
-            ring,
-            rows,
-            labels,
-            scratch,
-        ),
-        Call::OrderCounting => ordered(
-            set,
-            Either::Second(Counting),
-            places,
-            ring,
-            rows,
-            labels,
-            scratch,
-        ),
+) -> Result<(), L::Error>
+    ensures heard { (spare : ℕ → ℕ) (full : ℕ → Bool) → LineRun (λ n. short n places.old ring.old rows.old labels.old scratch.old) spare full (with_set (ledger R.ReadablePlan.meaning R.Register.left set.old)) (lists_of places.old ring.old rows.old) line.now (lists_of places.new ring.new rows.new) (L.Listener.log listener.old) (L.Listener.log listener.new) (with_set (ledger R.ReadablePlan.meaning R.Register.left set.new)) }
+    ensures size { (ledger R.ReadablePlan.meaning R.Register.left set.new).base.size ≡ (ledger R.ReadablePlan.meaning R.Register.left set.old).base.size }
+    ensures labels { KeptFrom (ledger R.ReadablePlan.meaning R.Register.left set.old).base.size labels.old labels.new }
+    ensures scratch { KeptFrom (2 * (ledger R.ReadablePlan.meaning R.Register.left set.old).base.size) scratch.old scratch.new }
+{
+    match set_call(line) {
+        Some(call) => run(set, &[call], listener, places, ring, rows, labels, scratch),
+        None => listener.hear(Err(Refusal::NoCall), Lists { places, ring, rows }),
     }
 }
 
-// The answer to a change.
-fn done(res: Result<(), Refusal>) -> Answer {
-    match res {
-        Ok(()) => Answer::Done,
-        Err(refusal) => Answer::Refused(refusal),
+// The n of the line that makes a set.
+fn new_size(line: &[u8]) -> Option<u16>
+    ensures { NewSize line.now result }
+{
+    match read_call(line) {
+        Some(Spelled::New(n)) => Some(n),
+        _ => None,
     }
 }
 
-// Orders the set by a kind of label.
-fn ordered<R: Register>(
-    set: &Set<R>,
-    kind: KindOfLabel,
-    places: &mut [Junction],
-    ring: &mut [Junction],
-    rows: &mut [u64],
-    labels: &mut [LabelOfVisit],
-    scratch: &mut [u16],
-) -> Answer {
-    match set.order(&kind, places, ring, rows, labels, scratch) {
-        Ok(report) => Answer::Ordered(set.size(), report),
-        Err(refusal) => Answer::Refused(refusal),
+// The call on a set that a line spells; the line that makes a set is none.
+fn set_call(line: &[u8]) -> Option<Call<'_, KindOfLabel>>
+    ensures { SetCall line.now result }
+{
+    match read_call(line) {
+        Some(Spelled::Join(v, w)) => Some(Call::Join(v, w)),
+        Some(Spelled::Cut(v, w)) => Some(Call::Cut(v, w)),
+        Some(Spelled::Shut(v)) => Some(Call::Shut(v)),
+        Some(Spelled::Open(v)) => Some(Call::Open(v)),
+        Some(Spelled::OrderLexicographic) => Some(Call::Order(Either::First(Lexicographic))),
+        Some(Spelled::OrderCounting) => Some(Call::Order(Either::Second(Counting))),
+        Some(Spelled::New(_)) => None,
+        None => None,
     }
 }

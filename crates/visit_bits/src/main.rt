@@ -2,14 +2,19 @@
 
 #![tactic(auto)]
 
+#[cfg(test)]
+mod tests;
+
 ghost use Rattle.std.specs.Prelude.{◌-◌, ◌*◌, ◌/◌, vec_len, nat_lt};
+ghost use Rattle.bits.specs.Making.{plan_of};
+ghost use Rattle.visit.specs.Visits.{Making};
 
 use bits::BitRegister;
 use edge::filled_or_empty;
-use ledger_visit::Maker;
 use plan::TurnedDown;
 use printer::print_visit;
 use std::io;
+use visit::Maker;
 
 // Makes a bit register in the memory that it holds.
 #[derive(Drop)]
@@ -20,20 +25,15 @@ struct BitMaker {
 impl Maker for BitMaker {
     type Made = BitRegister;
 
-    ghost spare = { λ _ n. n * (n - 1) / 2 };
-
-    ghost full = { λ m n. nat_lt (vec_len m.memory) (8 * n) };
+    ghost makes = { Making plan_of (λ r. r.spare) (λ _ n. n * (n - 1) / 2) (λ m n. nat_lt (vec_len m.memory) (8 * n)) };
 
     fn make(self, n: u16) -> Result<BitRegister, TurnedDown<BitMaker>> {
-        match BitRegister::new(n, self.memory) {
-            Ok(register) => Ok(register),
-            Err(turned) => Err(TurnedDown {
-                refusal: turned.refusal,
-                memory: BitMaker {
-                    memory: turned.memory,
-                },
-            }),
-        }
+        BitRegister::new(n, self.memory).map_err(|turned| TurnedDown {
+            refusal: turned.refusal,
+            memory: BitMaker {
+                memory: turned.memory,
+            },
+        })
     }
 }
 

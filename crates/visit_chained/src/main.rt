@@ -3,13 +3,15 @@
 #![tactic(auto)]
 
 ghost use Rattle.std.specs.Prelude.{◌+◌, vec_len, nat_lt};
+ghost use Rattle.chained.specs.Making.{plan_of};
+ghost use Rattle.visit.specs.Visits.{Making};
 
 use chained::ChainedRegister;
 use edge::filled_or_empty;
-use ledger_visit::Maker;
 use plan::TurnedDown;
 use printer::print_visit;
 use std::io;
+use visit::Maker;
 
 // The most pipes that the register of a visit takes.
 const PIPES: u16 = 8000;
@@ -23,20 +25,15 @@ struct ChainedMaker {
 impl Maker for ChainedMaker {
     type Made = ChainedRegister;
 
-    ghost spare = { λ _ n. 8000 };
-
-    ghost full = { λ m n. nat_lt (vec_len m.memory) (n + 32000) };
+    ghost makes = { Making plan_of (λ r. r.spare) (λ _ n. 8000) (λ m n. nat_lt (vec_len m.memory) (n + 32000)) };
 
     fn make(self, n: u16) -> Result<ChainedRegister, TurnedDown<ChainedMaker>> {
-        match ChainedRegister::new(n, PIPES, self.memory) {
-            Ok(register) => Ok(register),
-            Err(turned) => Err(TurnedDown {
-                refusal: turned.refusal,
-                memory: ChainedMaker {
-                    memory: turned.memory,
-                },
-            }),
-        }
+        ChainedRegister::new(n, PIPES, self.memory).map_err(|turned| TurnedDown {
+            refusal: turned.refusal,
+            memory: ChainedMaker {
+                memory: turned.memory,
+            },
+        })
     }
 }
 

@@ -1,25 +1,20 @@
 //! Changing a chained register, one pipe at a time.
 use crate::cells::{Seat, add_pair, free_pair};
 use crate::register::ChainedRegister;
-use plan::{Junction, Refusal, Register};
+use plan::{Junction, Refusal, Register, check_ends};
 
 /// The chained register as a register. Every junction is in service, so 11 does not occur.
 impl Register for ChainedRegister {
     ghost left = { λ r. r.spare };
 
     fn spare(&self) -> u32 {
-        self.spare as u32
+        u32::from(self.spare)
     }
 
     fn join(&mut self, v: Junction, w: Junction) -> Result<(), Refusal> {
-        if !self.has(v) || !self.has(w) {
-            return Err(Refusal::NoJunction);
-        }
-        if v.0 == w.0 {
-            return Err(Refusal::OneJunction);
-        }
+        check_ends(self.n, v, w)?;
         let v_found = self.find(v, w.0);
-        if v_found.neighbour == w.0 {
+        if v_found.neighbour == Some(w) {
             return Err(Refusal::JoinedAlready);
         }
         if self.spare == 0 {
@@ -41,14 +36,9 @@ impl Register for ChainedRegister {
     }
 
     fn cut(&mut self, v: Junction, w: Junction) -> Result<(), Refusal> {
-        if !self.has(v) || !self.has(w) {
-            return Err(Refusal::NoJunction);
-        }
-        if v.0 == w.0 {
-            return Err(Refusal::OneJunction);
-        }
+        check_ends(self.n, v, w)?;
         let v_found = self.find(v, w.0);
-        if v_found.neighbour != w.0 {
+        if v_found.neighbour != Some(w) {
             return Err(Refusal::NotJoined);
         }
         let (v_seat, w_seat) = (v_found.seat, self.find(w, v.0).seat);

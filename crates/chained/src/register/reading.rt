@@ -1,8 +1,8 @@
 //! Reading a chained register.
-ghost use Rattle.std.specs.Prelude.{◌≡◌, ◌≤◌, true};
-ghost use Rattle.plan.specs.Plans.{within};
+ghost use Rattle.std.specs.Prelude.{◌≡◌, ◌-◌, ◌≤◌, true};
+ghost use Rattle.plan.specs.Plans.{within, NextNeighbour};
 ghost use Rattle.chained.specs.Making.{plan_of};
-ghost use Rattle.chained.specs.Reading.{SeatIn, NeighbourFrom};
+ghost use Rattle.chained.specs.Reading.{SeatIn};
 ghost use Rattle.chained.specs.Walks.{plan_sound};
 
 use crate::register::ChainedRegister;
@@ -13,18 +13,11 @@ use plan::{Junction, ReadablePlan};
 pub(super) struct Found {
     /// The last node of the chain with a lower far end than looked for.
     pub(super) seat: u16,
-    /// The far end of the node behind it, or 0 where there is none.
-    pub(super) neighbour: u16,
+    /// The far end of the node behind it, where there is one.
+    pub(super) neighbour: Option<Junction>,
 }
 
 impl ChainedRegister {
-    /// Whether v is a junction, 1 to n.
-    pub(super) fn has(&self, v: Junction) -> bool
-        ensures { result ≡ within self.now.n v.0 }
-    {
-        1 <= v.0 && v.0 <= self.n
-    }
-
     /// The last node of v's chain with far end below w.
     fn seat(&self, v: Junction, w: u16) -> u16
         requires { (within self.now.n v.0 ≡ true) × (1 ≤ w) }
@@ -45,16 +38,22 @@ impl ChainedRegister {
     pub(super) fn find(&self, v: Junction, w: u16) -> Found
         requires { (within self.now.n v.0 ≡ true) × (1 ≤ w) }
         ensures seat { SeatIn self.now v.0 w result.seat }
-        ensures neighbour { NeighbourFrom (plan_of self.now) v.0 w result.neighbour }
+        ensures neighbour { NextNeighbour (plan_of self.now) v.0 (w - 1) result.neighbour }
     {
         let seat = self.seat(v, w);
         let cells = self.cells.as_slice();
         let next = cells[seat as usize];
         if next == 0 {
-            return Found { seat, neighbour: 0 };
+            return Found {
+                seat,
+                neighbour: None,
+            };
         }
-        let neighbour = cells[next as usize + 2 * self.c as usize];
-        Found { seat, neighbour }
+        let far = cells[next as usize + 2 * self.c as usize];
+        Found {
+            seat,
+            neighbour: Some(Junction(far)),
+        }
     }
 }
 
@@ -69,25 +68,18 @@ impl ReadablePlan for ChainedRegister {
     }
 
     fn serves(&self, v: Junction) -> bool {
-        self.has(v)
+        v.is_within(self.n)
     }
 
     fn joined(&self, v: Junction, w: Junction) -> bool {
-        if !self.has(v) || !self.has(w) {
-            return false;
-        }
-        self.find(v, w.0).neighbour == w.0
+        v.is_within(self.n) && w.is_within(self.n) && self.find(v, w.0).neighbour == Some(w)
     }
 
     fn next(&self, v: Junction, w: Junction) -> Option<Junction> {
         // No neighbour is above n, and w + 1 stays in its type.
-        if !self.has(v) || w.0 >= self.n {
+        if !v.is_within(self.n) || w.0 >= self.n {
             return None;
         }
-        let neighbour = self.find(v, w.0 + 1).neighbour;
-        if neighbour == 0 {
-            return None;
-        }
-        Some(Junction(neighbour))
+        self.find(v, w.0 + 1).neighbour
     }
 }

@@ -1,5 +1,6 @@
 use Rattle.std.proofs.Common.{◌≡◌, ℕ, ◌*◌, Bool, List, [], ◌++◌, map, take, sym, refl, ap, ◌∙◌, subst, arith}
 use Rattle.std.proofs.lemmas.List.{append-nil, append_assoc, length-map, take_all}
+use Rattle.std.proofs.lemmas.Result.{err_from_is_err_and}
 use Rattle.order.specs.Reports.{short}
 use Rattle.set.specs.Kept.{ledger}
 use Rattle.set.specs.Ledgers.{Ledger}
@@ -20,17 +21,18 @@ loop-call-init g c = (
   λ h. (refl, refl),
 )
 
-pub returns-in-Err : goal.returns-in-Err
-returns-in-Err g c =
+pub returns-in_err-hear : goal.returns-in_err-hear
+returns-in_err-hear g c =
     let inv = c.loop-call.invariant in
     let size : (ledger g.R.ReadablePlan.meaning g.R.Register.left c.loop-call.set).base.size ≡ (ledger g.R.ReadablePlan.meaning g.R.Register.left c.args.set.now).base.size = ap (λ (l : Ledger). l.base.size) inv.0.ran.ledger ∙ fed-size _ (take c.loop-call.call-index (map (deed (short (g.R.ReadablePlan.meaning c.args.set.now.layer.below).size c.args.places.now c.args.ring.now c.args.rows.now c.args.labels.now c.args.scratch.now)) c.args.calls.now)) in
     let same = short_same _ _ _ _ _ _ _ _ _ _ _ _ size c.loop-call.auto.places c.loop-call.auto.ring c.loop-call.auto.rows c.loop-call.auto.labels c.loop-call.auto.scratch in
     let d = ap (λ (b : Bool). deed b c.call-item.result) same in
     let more = take-map-next (deed (short (g.R.ReadablePlan.meaning c.args.set.now.layer.below).size c.args.places.now c.args.ring.now c.args.rows.now c.args.labels.now c.args.scratch.now)) c.args.calls.now c.loop-call.call-index c.call-item.result c.call-item.is c.loop-call-test.true in
     let ran = ran_next _ _ _ _ _ _ _ _ _ _ _ _ _ _ inv.0.ran more d c.carry_out-answer.ensures.answered c.carry_out-answer.ensures.ledger in
+    let failed = err_from_is_err_and c.from_residual.result c.from_residual.ensures.1 in
     record {
       new = new-started (ledger g.R.ReadablePlan.meaning g.R.Register.left c.args.set.now);
-      kept = (c.loop-call.call-index, omega (arith, c.loop-call-test.true, length-map c.args.calls.now (deed (short (g.R.ReadablePlan.meaning c.args.set.now.layer.below).size c.args.places.now c.args.ring.now c.args.rows.now c.args.labels.now c.args.scratch.now))), _, ran, (λ old h. subst (λ (xs : List Heard). g.L.Listener.log c.hear.new.self xs) (append_assoc old inv.0.answers _) (c.hear.ensures (old ++ inv.0.answers) (inv.0.told old h))));
+      kept = rw failed.1 (c.loop-call.call-index, omega (arith, c.loop-call-test.true, length-map c.args.calls.now (deed (short (g.R.ReadablePlan.meaning c.args.set.now.layer.below).size c.args.places.now c.args.ring.now c.args.rows.now c.args.labels.now c.args.scratch.now))), _, ran, (λ old h. subst (λ (xs : List Heard). g.L.Listener.log c.hear.new.self xs) (append_assoc old inv.0.answers _) (c.hear.ensures (old ++ inv.0.answers) (inv.0.told old h))));
       labels = kept-both _ _ _ _ _ size inv.1 c.carry_out-answer.ensures.labels;
       scratch = kept-both _ _ _ _ _ (ap (λ (n : ℕ). 2 * n) size) inv.2 c.carry_out-answer.ensures.scratch;
       idle = λ h.

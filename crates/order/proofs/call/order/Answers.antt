@@ -14,55 +14,54 @@ use Rattle.order.specs.Reports.{RingShown}
 use Rattle.order.proofs.Verdict.{least, free_count, shown_none, shown_some, part_numbers, fill_carried, long_enough}
 use Rattle.order.proofs.call.order.Given as given
 use Rattle.order.proofs.call.order.Goals as goal
-use Rattle.order.proofs.call.order.Goals.{In-Ok, In-Ok-fill, then-fill-gt0+in-Ok-find_ring, else-fill-gt0}
+use Rattle.order.proofs.call.order.Goals.{In_ok-search, In_ok-fill, then-fill-gt0+in_ok-length, else-fill-gt0}
 
 -- the search was carried out
-found : (g : given.Over) (c : In-Ok g) → Searched (g.K.Kind.blank c.args.kind.now) (g.K.Kind.raised c.args.kind.now) (g.K.Kind.compared c.args.kind.now) (g.P.ReadablePlan.meaning c.args.plan.now) (take (g.P.ReadablePlan.meaning c.args.plan.now).size (numbers c.search.new.places))
-found g c = c.in-Ok.ensures.left.0
+found : (g : given.Over) (c : In_ok-search g) → Searched (g.K.Kind.blank c.args.kind.now) (g.K.Kind.raised c.args.kind.now) (g.K.Kind.compared c.args.kind.now) (g.P.ReadablePlan.meaning c.args.plan.now) (take (g.P.ReadablePlan.meaning c.args.plan.now).size (numbers c.search.new.places))
+found g c = c.in_ok-search.ensures.left.0
 
-pub unreachable-requires-in_default-fill : goal.unreachable-requires-in_default-fill
-unreachable-requires-in_default-fill g c =
+pub returns-in_err-fill : goal.returns-in_err-fill
+returns-in_err-fill g c =
     let p : Plan = g.P.ReadablePlan.meaning c.args.plan.now in
     let e : c.size-n.result ≡ p.size = c.size-n.ensures.value in
-    let said = c.in_default-fill.ensures.answer in
     let us = part_numbers c.search.new.places c.size-n.result p.size e in
-    carried≢refused _ _ (said ∙ ap (λ (xs : List ℕ). fill_verdict p.size xs (length c.args.rows.now)) us ∙ fill_carried p.size _ _ (found g (goal.at.unreachable-requires-in_default-fill g c).In-Ok).order (omega (arith, c.if-rows-n.false, e)))
+    absurd (carried≢refused _ _ (c.in_err-fill.ensures.answer ∙ ap (λ (xs : List ℕ). fill_verdict p.size xs (length c.args.rows.now)) us ∙ fill_carried p.size _ _ (found g (goal.at.returns-in_err-fill g c).In_ok-search).order (omega (arith, c.if-rows-n.false, e))))
 
 -- the fill that was worked out is that of the order found
-filled : (g : given.Over) (c : In-Ok-fill g) → Fills (g.P.ReadablePlan.meaning c.args.plan.now) (take (g.P.ReadablePlan.meaning c.args.plan.now).size (numbers c.search.new.places)) c.args.rows.now c.in-Ok-fill.fill c.fill.new.rows
+filled : (g : given.Over) (c : In_ok-fill g) → Fills (g.P.ReadablePlan.meaning c.args.plan.now) (take (g.P.ReadablePlan.meaning c.args.plan.now).size (numbers c.search.new.places)) c.args.rows.now c.in_ok-fill.fill c.fill.new.rows
 filled g c =
     let p : Plan = g.P.ReadablePlan.meaning c.args.plan.now in
-    subst (λ (xs : List ℕ). Fills p xs c.args.rows.now c.in-Ok-fill.fill c.fill.new.rows) (part_numbers c.search.new.places c.size-n.result p.size c.size-n.ensures.value) c.in-Ok-fill.ensures.written
+    subst (λ (xs : List ℕ). Fills p xs c.args.rows.now c.in_ok-fill.fill c.fill.new.rows) (part_numbers c.search.new.places c.size-n.result p.size c.size-n.ensures.value) c.in_ok-fill.ensures.written
 
 pub overflow_add-cells : goal.overflow_add-cells
 overflow_add-cells g c =
     let p : Plan = g.P.ReadablePlan.meaning c.args.plan.now in
     let few : p.size ≤ 512 = (g.met.P.ReadablePlan.sound c.args.plan.now).few in
-    let f = filled g (goal.at.overflow_add-cells g c).In-Ok-fill in
+    let f = filled g (goal.at.overflow_add-cells g c).In_ok-fill in
     record { fits = omega (arith, c.pipes.ensures, f.counted, pairs_few p.joins p.size few, pairs_few (fill p.joins (take p.size (numbers c.search.new.places))) p.size few) }
 
 -- what the laws of the kind give the search
-late : (g : given.Over) (c : In-Ok g) → LateNeighbours (g.K.Kind.blank c.args.kind.now) (g.K.Kind.raised c.args.kind.now) (g.K.Kind.compared c.args.kind.now)
+late : (g : given.Over) (c : In_ok-search g) → LateNeighbours (g.K.Kind.blank c.args.kind.now) (g.K.Kind.raised c.args.kind.now) (g.K.Kind.compared c.args.kind.now)
 late g c = late_neighbours_lem _ _ _ (g.K.Kind.stands c.args.kind.now) (g.met.K.Kind.lawful c.args.kind.now)
 
 -- the ring beside the order, and the scratch that was used for it
-shown : (g : given.Over) (c : goal.After-pipes g) → RingShown (g.P.ReadablePlan.meaning c.args.plan.now) c.in-Ok-fill.fill c.args.ring.now c.if-fill-gt0.ring c.if-fill-gt0.length × KeptFrom (2 * (g.P.ReadablePlan.meaning c.args.plan.now).size) c.args.scratch.now c.if-fill-gt0.scratch
+shown : (g : given.Over) (c : goal.After-pipes g) → RingShown (g.P.ReadablePlan.meaning c.args.plan.now) c.in_ok-fill.fill c.args.ring.now c.if-fill-gt0.ring c.if-fill-gt0.length × KeptFrom (2 * (g.P.ReadablePlan.meaning c.args.plan.now).size) c.args.scratch.now c.if-fill-gt0.scratch
 shown g c =
     let p : Plan = g.P.ReadablePlan.meaning c.args.plan.now in
     let sound : Sound p = g.met.P.ReadablePlan.sound c.args.plan.now in
     let us : List ℕ = take p.size (numbers c.search.new.places) in
-    let s = found g (goal.at.returns g c).In-Ok in
-    let l = late g (goal.at.returns g c).In-Ok in
-    let f = (filled g (goal.at.returns g c).In-Ok-fill).counted in
-    let kept = c.in-Ok.ensures.left.3 in
+    let s = found g (goal.at.returns g c).In_ok-search in
+    let l = late g (goal.at.returns g c).In_ok-search in
+    let f = (filled g (goal.at.returns g c).In_ok-fill).counted in
+    let kept = c.in_ok-search.ensures.left.3 in
     elim c.if-fill-gt0.branch [
-      | then-fill-gt0+in-Ok-find_ring w ↦
-          (let r = w.in-Ok-find_ring.ensures.left in (
-            rw (w.ring-is, w.length-is) (shown_some _ _ _ l p sound us s c.in-Ok-fill.fill _ _ _ f w.if-fill-gt0.true r.0),
+      | then-fill-gt0+in_ok-length w ↦
+          (let r = w.in_ok-length.ensures.left in (
+            rw (w.ring-is, w.length-is) (shown_some _ _ _ l p sound us s c.in_ok-fill.fill _ _ _ f w.if-fill-gt0.true r.0),
             rw w.scratch-is (λ k d h. r.1 k d h ∙ kept k d h),
           ))
       | else-fill-gt0 w ↦ (
-        rw (w.ring-is, w.length-is) (shown_none _ _ _ l p sound us s c.in-Ok-fill.fill c.args.ring.now f (omega (arith, w.if-fill-gt0.false))),
+        rw (w.ring-is, w.length-is) (shown_none _ _ _ l p sound us s c.in_ok-fill.fill c.args.ring.now f (omega (arith, w.if-fill-gt0.false))),
         rw w.scratch-is kept,
       )
     ]
@@ -73,11 +72,11 @@ returns g c =
     let p : Plan = g.P.ReadablePlan.meaning c.args.plan.now in
     let sound : Sound p = g.met.P.ReadablePlan.sound c.args.plan.now in
     let e : c.size-n.result ≡ p.size = c.size-n.ensures.value in
-    let s = found g (goal.at.returns g c).In-Ok in
-    let l = late g (goal.at.returns g c).In-Ok in
-    let f = filled g (goal.at.returns g c).In-Ok-fill in
+    let s = found g (goal.at.returns g c).In_ok-search in
+    let l = late g (goal.at.returns g c).In_ok-search in
+    let f = filled g (goal.at.returns g c).In_ok-fill in
     let ring = shown g c in
-    let left = c.in-Ok.ensures.left in
+    let left = c.in_ok-search.ensures.left in
     record {
       verdict = sym (cond-false _ _ _ (long_enough p.size _ _ _ _ _ (omega (arith, c.if-places-n.false, e)) (omega (arith, c.if-ring-n.false, e)) (omega (arith, c.if-rows-n.false, e)) (omega (arith, c.if-labels-n.false, e)) (omega (arith, c.if-scratch-n.false, e))));
       left = (
@@ -86,7 +85,7 @@ returns g c =
           fill_rows = f.rows;
           count = f.counted;
           cells_are = ap₂ (λ (x y : ℕ). x + y) c.pipes.ensures f.counted;
-          free = free_count _ _ _ l p sound _ s c.in-Ok-fill.fill f.counted;
+          free = free_count _ _ _ l p sound _ s c.in_ok-fill.fill f.counted;
           least = least _ _ _ l p sound _ s;
           shown = ring.0;
           places_behind = left.1;

@@ -1,44 +1,19 @@
-use Rattle.std.proofs.Common.{ℕ, ◌∷◌, sym, ap, subst, inl, inr, arith}
-use Rattle.sheet.specs.Calls.{One, Two, Spelled}
-use Rattle.sheet.proofs.Spelling.{spelled_one, spelled_two, none_with_one, none_with_two, none_alone}
+use Rattle.std.proofs.Common.{refl, rules}
+use Rattle.sheet.specs.declared.call.Call.TheVariants.{New, Join, Cut, Shut, Open}
+use Rattle.sheet.proofs.Spelling.{with_one, with_two}
 use Rattle.sheet.proofs.call.call_by.Goals as goal
 
-pub returns-in_default-one_argument : goal.returns-in_default-one_argument
-returns-in_default-one_argument c = none_with_one _ _ (λ e. omega (arith, c.in-N.is)) (λ e. omega (arith, c.in-N.is)) (λ e. omega (arith, c.in-N.is)) (λ e. omega (arith, c.in-N.is)) c.in_default-one_argument.ensures
+pub returns-in-N : goal.returns-in-N
+returns-in-N c = rw c.in-N.is (with_one 78 _ _ _ (λ n. New n) refl (λ n h. h) c.one_argument.ensures (search rules))
 
-pub returns-in_default-two_arguments : goal.returns-in_default-two_arguments
-returns-in_default-two_arguments c = none_with_two _ _ (λ e. omega (arith, c.in-J.is)) (λ e. omega (arith, c.in-J.is)) (λ e. omega (arith, c.in-J.is)) (λ e. omega (arith, c.in-J.is)) (λ e. omega (arith, c.in-J.is)) c.in_default-two_arguments.ensures
+pub returns-in-J : goal.returns-in-J
+returns-in-J c = rw c.in-J.is (with_two 74 _ _ _ (λ x. Join (record { 0 = x.0 }) (record { 0 = x.1 })) refl (λ x h. h) c.two_arguments.ensures (search rules))
 
-pub returns-in_default-two_arguments-2 : goal.returns-in_default-two_arguments-2
-returns-in_default-two_arguments-2 c = none_with_two _ _ (λ e. omega (arith, c.in-C.is)) (λ e. omega (arith, c.in-C.is)) (λ e. omega (arith, c.in-C.is)) (λ e. omega (arith, c.in-C.is)) (λ e. omega (arith, c.in-C.is)) c.in_default-two_arguments-2.ensures
+pub returns-in-C : goal.returns-in-C
+returns-in-C c = rw c.in-C.is (with_two 67 _ _ _ (λ x. Cut (record { 0 = x.0 }) (record { 0 = x.1 })) refl (λ x h. h) c.two_arguments-in-C.ensures (search rules))
 
-pub returns-in_default-one_argument-2 : goal.returns-in_default-one_argument-2
-returns-in_default-one_argument-2 c = none_with_one _ _ (λ e. omega (arith, c.in-S.is)) (λ e. omega (arith, c.in-S.is)) (λ e. omega (arith, c.in-S.is)) (λ e. omega (arith, c.in-S.is)) c.in_default-one_argument-2.ensures
+pub returns-in-S : goal.returns-in-S
+returns-in-S c = rw c.in-S.is (with_one 83 _ _ _ (λ v. Shut (record { 0 = v })) refl (λ v h. h) c.one_argument-in-S.ensures (search rules))
 
-pub returns-in_default-one_argument-3 : goal.returns-in_default-one_argument-3
-returns-in_default-one_argument-3 c = none_with_one _ _ (λ e. omega (arith, c.in-O.is)) (λ e. omega (arith, c.in-O.is)) (λ e. omega (arith, c.in-O.is)) (λ e. omega (arith, c.in-O.is)) c.in_default-one_argument-3.ensures
-
-pub returns-in-Some : goal.returns-in-Some
-returns-in-Some c =
-    let a = c.in-Some.ensures in
-    subst (λ (b : ℕ). One 78 (b ∷ c.args.rest.now) c.in-Some.n) (sym c.in-N.is) (spelled_one 78 c.args.rest.now _ a.0 a.1 a.2)
-
-pub returns-in-Some-two_arguments : goal.returns-in-Some-two_arguments
-returns-in-Some-two_arguments c =
-    let a = c.in-Some-two_arguments.ensures in
-    subst (λ (b : ℕ). Two 74 (b ∷ c.args.rest.now) c.in-Some-two_arguments.v c.in-Some-two_arguments.w) (sym c.in-J.is) (spelled_two 74 c.args.rest.now _ _ a.0 a.1 a.2 a.3 a.4)
-
-pub returns-in-Some-two_arguments-2 : goal.returns-in-Some-two_arguments-2
-returns-in-Some-two_arguments-2 c =
-    let a = c.in-Some-two_arguments-2.ensures in
-    subst (λ (b : ℕ). Two 67 (b ∷ c.args.rest.now) c.in-Some-two_arguments-2.v c.in-Some-two_arguments-2.w) (sym c.in-C.is) (spelled_two 67 c.args.rest.now _ _ a.0 a.1 a.2 a.3 a.4)
-
-pub returns-in-Some-one_argument : goal.returns-in-Some-one_argument
-returns-in-Some-one_argument c =
-    let a = c.in-Some-one_argument.ensures in
-    subst (λ (b : ℕ). One 83 (b ∷ c.args.rest.now) c.in-Some-one_argument.v) (sym c.in-S.is) (spelled_one 83 c.args.rest.now _ a.0 a.1 a.2)
-
-pub returns-in-Some-one_argument-2 : goal.returns-in-Some-one_argument-2
-returns-in-Some-one_argument-2 c =
-    let a = c.in-Some-one_argument-2.ensures in
-    subst (λ (b : ℕ). One 79 (b ∷ c.args.rest.now) c.in-Some-one_argument-2.v) (sym c.in-O.is) (spelled_one 79 c.args.rest.now _ a.0 a.1 a.2)
+pub returns-in-O : goal.returns-in-O
+returns-in-O c = rw c.in-O.is (with_one 79 _ _ _ (λ v. Open (record { 0 = v })) refl (λ v h. h) c.one_argument-in-O.ensures (search rules))

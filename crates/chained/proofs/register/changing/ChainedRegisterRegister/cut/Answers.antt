@@ -1,24 +1,25 @@
 use Rattle.std.proofs.Common.{◌+◌, vec_items, sym}
 use Rattle.std.specs.Vec.{with_items}
+use Rattle.std.proofs.lemmas.Bool.{not-true, not-false}
 use Rattle.chained.proofs.States.{Kept}
 use Rattle.chained.proofs.Steps.{cut_unjoined, cut_seats, cut_nodes, cut_pair, cut_kept, cut_done}
 use Rattle.chained.proofs.register.changing.ChainedRegisterRegister.cut.Goals as goal
 
-pub returns-then-v_found-w : goal.returns-then-v_found-w
-returns-then-v_found-w c =
-    cut_unjoined c.args.self.now c.args.v.0 c.args.w.0 (sym c.if-not-has.ensures) (sym c.if-not-has-2.ensures) c.if-v-w.false c.find-v_found.result.neighbour c.find-v_found.ensures.neighbour c.if-v_found-w.true
+pub returns-then-ne : goal.returns-then-ne
+returns-then-ne c =
+    cut_unjoined c.args.self.now c.args.v.0 c.args.w.0 c.in_ok-check_ends.ensures c.find-v_found.result.neighbour c.find-v_found.ensures.neighbour (not-true _ (sym c.if-ne.ensures))
 
 pub free_pair-pair-requires : goal.free_pair-pair-requires
 free_pair-pair-requires c =
     record {
-      seats = cut_seats c.args.self.now c.args.v.0 c.args.w.0 (sym c.if-not-has.ensures) (sym c.if-not-has-2.ensures) c.if-v-w.false c.find-v_found.result.seat c.find.result.seat c.find-v_found.ensures.seat c.find.ensures.seat c.find-v_found.result.neighbour c.find-v_found.ensures.neighbour c.if-v_found-w.false c.deref_mut.result.now c.deref_mut.ensures.value;
-      nodes = cut_nodes c.args.self.now c.args.v.0 c.args.w.0 (sym c.if-not-has.ensures) (sym c.if-not-has-2.ensures) c.if-v-w.false c.find-v_found.result.seat c.find.result.seat c.find-v_found.ensures.seat c.find.ensures.seat c.find-v_found.result.neighbour c.find-v_found.ensures.neighbour c.if-v_found-w.false c.deref_mut.result.now c.deref_mut.ensures.value;
-      pair = cut_pair c.args.self.now c.args.v.0 c.args.w.0 (sym c.if-not-has.ensures) (sym c.if-not-has-2.ensures) c.if-v-w.false c.find-v_found.result.seat c.find.result.seat c.find-v_found.ensures.seat c.find.ensures.seat c.find-v_found.result.neighbour c.find-v_found.ensures.neighbour c.if-v_found-w.false c.deref_mut.result.now c.deref_mut.ensures.value;
+      seats = cut_seats c.args.self.now c.args.v.0 c.args.w.0 c.in_ok-check_ends.ensures c.find-v_found.result.neighbour c.find-v_found.ensures.neighbour c.find-v_found.result.seat c.find.result.seat c.find-v_found.ensures.seat c.find.ensures.seat (not-false _ (sym c.if-ne.ensures)) c.deref_mut.result.now c.deref_mut.ensures.value;
+      nodes = cut_nodes c.args.self.now c.args.v.0 c.args.w.0 c.in_ok-check_ends.ensures c.find-v_found.result.neighbour c.find-v_found.ensures.neighbour c.find-v_found.result.seat c.find.result.seat c.find-v_found.ensures.seat c.find.ensures.seat (not-false _ (sym c.if-ne.ensures)) c.deref_mut.result.now c.deref_mut.ensures.value;
+      pair = cut_pair c.args.self.now c.args.v.0 c.args.w.0 c.in_ok-check_ends.ensures c.find-v_found.result.neighbour c.find-v_found.ensures.neighbour c.find-v_found.result.seat c.find.result.seat c.find-v_found.ensures.seat c.find.ensures.seat (not-false _ (sym c.if-ne.ensures)) c.deref_mut.result.now c.deref_mut.ensures.value;
     }
 
 pub invariant_of-self : goal.invariant_of-self
 invariant_of-self c =
-    let k : Kept c.args.self.now.n c.args.self.now.c (c.args.self.now.spare + 1) c.free_pair-pair.result (vec_items (with_items c.args.self.now.cells c.free_pair-pair.new.cells)) = cut_kept c.args.self.now c.args.v.0 c.args.w.0 (sym c.if-not-has.ensures) (sym c.if-not-has-2.ensures) c.if-v-w.false c.find-v_found.result.seat c.find.result.seat c.find-v_found.ensures.seat c.find.ensures.seat c.find-v_found.result.neighbour c.find-v_found.ensures.neighbour c.if-v_found-w.false c.deref_mut.result.now c.deref_mut.ensures.value c.free_pair-pair.new.cells c.free_pair-pair.auto.cells c.free_pair-pair.ensures.cells c.free_pair-pair.result c.free_pair-pair.ensures.pair in
+    let k : Kept c.args.self.now.n c.args.self.now.c (c.args.self.now.spare + 1) c.free_pair-pair.result (vec_items (with_items c.args.self.now.cells c.free_pair-pair.new.cells)) = cut_kept c.args.self.now c.args.v.0 c.args.w.0 c.in_ok-check_ends.ensures c.find-v_found.result.neighbour c.find-v_found.ensures.neighbour c.find-v_found.result.seat c.find.result.seat c.find-v_found.ensures.seat c.find.ensures.seat (not-false _ (sym c.if-ne.ensures)) c.deref_mut.result.now c.deref_mut.ensures.value c.free_pair-pair.new.cells c.free_pair-pair.auto.cells c.free_pair-pair.ensures.cells c.free_pair-pair.result c.free_pair-pair.ensures.pair in
     record {
       some = c.args.self.now.some;
       few = c.args.self.now.few;
@@ -39,5 +40,5 @@ invariant_of-self c =
 
 pub returns : goal.returns
 returns c =
-    cut_done c.args.self.now c.args.v.0 c.args.w.0 (sym c.if-not-has.ensures) (sym c.if-not-has-2.ensures) c.if-v-w.false c.find-v_found.result.seat c.find.result.seat c.find-v_found.ensures.seat c.find.ensures.seat c.find-v_found.result.neighbour c.find-v_found.ensures.neighbour c.if-v_found-w.false
+    cut_done c.args.self.now c.args.v.0 c.args.w.0 c.in_ok-check_ends.ensures c.find-v_found.result.neighbour c.find-v_found.ensures.neighbour c.find-v_found.result.seat c.find.result.seat c.find-v_found.ensures.seat c.find.ensures.seat (not-false _ (sym c.if-ne.ensures))
     c.deref_mut.result.now c.deref_mut.ensures.value c.free_pair-pair.new.cells c.free_pair-pair.auto.cells c.free_pair-pair.ensures.cells

@@ -1,10 +1,9 @@
-use Rattle.chained.specs.Walks.{next-none, next_found}
+use Rattle.std.proofs.Common.{◌≡◌, ℕ, ◌+◌, ◌-◌, subst, arith}
+use Rattle.plan.specs.Plans.{NextNeighbour}
+use Rattle.chained.specs.Making.{plan_of}
 use Rattle.chained.proofs.register.reading.ChainedRegisterReadablePlan.next.Goals as goal
-
-pub returns-then-neighbour-eq0 : goal.returns-then-neighbour-eq0
-returns-then-neighbour-eq0 c =
-    next-none c.args.self.now c.args.v.0 c.args.w.0 (rw c.if-neighbour-eq0.true at c.find-neighbour.ensures.neighbour)
 
 pub returns : goal.returns
 returns c =
-    next_found c.args.self.now c.args.v.0 c.args.w.0 c.find-neighbour.result.neighbour c.if-neighbour-eq0.false c.find-neighbour.ensures.neighbour
+    let same : c.args.w.0 + 1 - 1 ≡ c.args.w.0 = omega arith in
+    subst (λ (x : ℕ). NextNeighbour (plan_of c.args.self.now) c.args.v.0 x c.find.result.neighbour) same c.find.ensures.neighbour

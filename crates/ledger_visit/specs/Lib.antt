@@ -1,4 +1,0 @@
-pub mod Kinds
-pub mod Listings
-pub mod Openings
-pub mod Visits

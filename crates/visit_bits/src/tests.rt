@@ -1,0 +1,81 @@
+use bits::BitRegister;
+use calls::{Answer, Listener, Lists};
+use edge::filled;
+use label::{Count, Either};
+use plan::{Junction, Refusal, TurnedDown};
+use std::alloc::{AllocError, Global};
+use std::test::Fail;
+use visit::{Listing, Maker, visit};
+
+// Makes bit registers, each in memory of its own, and promises nothing of them.
+#[derive(Drop)]
+struct Bits {
+    heap: Global,
+}
+
+impl Maker for Bits {
+    type Made = BitRegister;
+
+    ghost makes = { λ _ _ _. Unit {0} };
+
+    fn make(self, n: u16) -> Result<BitRegister, TurnedDown<Bits>> {
+        let made = match filled(self.heap, 0, 8 * 512) {
+            Ok(memory) => BitRegister::new(n, memory).map_err(|turned| turned.refusal),
+            Err(_) => Err(Refusal::ShortMemory),
+        };
+        made.map_err(|refusal| TurnedDown {
+            refusal,
+            memory: self,
+        })
+    }
+}
+
+// Keeps each answer as the lines of a listing, and promises nothing of what it was told.
+#[derive(Drop)]
+struct Tape {
+    heap: Global,
+    text: String,
+}
+
+impl Listener for Tape {
+    type Error = AllocError;
+
+    ghost log = { λ _ _. Unit {0} };
+
+    fn hear(&mut self, answer: Answer, lists: Lists<'_>) -> Result<(), AllocError> {
+        let listing = Listing { answer, lists };
+        let lines = format!(in self.heap; "{listing}")?;
+        self.text.push_str(lines.as_str())
+    }
+}
+
+#[test]
+fn visits_line_by_line(rt: HostRuntime) -> Result<(), Fail> {
+    let heap = rt.alloc();
+    let sheet =
+        "J 1 2\nN 513\nN 4\nN 4\nJ 1 2\nJ 2 3\nJ 3 4\nJ 4 1\nL\nK\nS 4\nL\nJ 4 2\nO 4\nC 1 3";
+    let lines =
+        "no 7\nno 1\nok\nno 7\nok\nok\nok\nok\norder 3 4 2 1\nfill 1 cells 5\nring 1 2 3 4\norder 4 3 2 1\nfill 1 cells 5\nring 1 2 3 4\nok\norder 4 3 2 1\nfill 0 cells 2\nring none\nno 11\nok\nno 13\n";
+    let mut tape = Tape {
+        heap,
+        text: String::new(heap),
+    };
+    let mut places = filled(heap, Junction(0), 4)?;
+    let mut ring = filled(heap, Junction(0), 4)?;
+    let mut rows = filled(heap, 0, 32)?;
+    let mut labels = filled(heap, Either::Second(Count(0)), 4)?;
+    let mut scratch = filled(heap, 0, 8)?;
+    let heard = visit(
+        sheet.as_bytes(),
+        Bits { heap },
+        &mut tape,
+        &mut places,
+        &mut ring,
+        &mut rows,
+        &mut labels,
+        &mut scratch,
+    );
+    assert!(rt; heard.is_ok());
+    assert!(rt; tape.text.as_str() == lines);
+    Ok(())
+}
