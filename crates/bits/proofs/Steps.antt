@@ -1,11 +1,11 @@
 -- A join and a cut that are carried out: the checks passed, the plan after and the count of its pipes.
-use Rattle.std.proofs.Common.{◌≡◌, ℕ, ◌+◌, ◌-◌, ◌*◌, ◌≤◌, Bool, true, false, not, ◌&&◌, ◌||◌, eqb, List, [], ◌∷◌, length, MatchBool, vec_items, Vec, sym, refl, ap, ◌∙◌, arith}
+use Rattle.std.proofs.Common.{◌≡◌, ℕ, ◌+◌, ◌-◌, ◌*◌, ◌≤◌, Bool, true, false, not, ◌&&◌, ◌||◌, eqb, List, length, MatchBool, vec_items, Vec, refl, ap, ◌∙◌, arith}
 use Rattle.std.specs.declared.alloc.Global.{Global}
 use Rattle.std.specs.Vec.{with_items}
-use Rattle.std.proofs.lemmas.Bool.{ne_eqb, eq-eqb, and_parts, not-false, both_ways}
+use Rattle.std.proofs.lemmas.Bool.{ne_eqb}
 use Rattle.plan.specs.Plans.{within, pairs}
-use Rattle.plan.specs.Refusals.{carried, checked}
-use Rattle.plan.proofs.Verdicts.{Passes, all_passed}
+use Rattle.plan.specs.Refusals.{carried}
+use Rattle.plan.proofs.Verdicts.{ends_verdict, ends_passed}
 use Rattle.plan.specs.Registers.{same_pair, join_verdict, cut_verdict, Joins, Cuts}
 use Rattle.plan.proofs.Counts.{pairs-le}
 use Rattle.bitset.specs.Bits.{holds}
@@ -82,18 +82,12 @@ pub record Tallied (n spare : ℕ) (ws : List ℕ) : Type 0 where
   pub apart : (a : ℕ) → joined n ws a a ≡ false
   pub counted : 2 * (spare + pairs (joined n ws) n) + n ≡ n * n
 
-module _ (r : BitRegister) (v w : ℕ) (passed : carried ≡ checked ((not (within r.n v && within r.n w), 2) ∷ (eqb v w, 3) ∷ [])) where
-  passes : Passes ((not (within r.n v && within r.n w), 2) ∷ (eqb v w, 3) ∷ [])
-  passes = all_passed ((not (within r.n v && within r.n w), 2) ∷ (eqb v w, 3) ∷ []) (sym passed)
-
-  ends : (within r.n v ≡ true) × (within r.n w ≡ true)
-  ends = and_parts (within r.n v) (within r.n w) (not-false (within r.n v && within r.n w) passes.0)
-
-  ne : v ≡ w → ⊥
-  ne e = both_ways (eqb v w) passes.1.0 (eq-eqb v w e)
+module _ (r : BitRegister) (v w : ℕ) (passed : carried ≡ ends_verdict r.n v w) where
+  ends : (within r.n v ≡ true) × (within r.n w ≡ true) × (v ≡ w → ⊥)
+  ends = ends_passed r.n v w passed
 
   pub join_has_spare : joined r.n (vec_items r.words) v w ≡ false → 1 ≤ r.spare
-  join_has_spare e = spare_left r.n r.spare (vec_items r.words) v w r.counted r.alike ends.0 ends.1 ne e
+  join_has_spare e = spare_left r.n r.spare (vec_items r.words) v w r.counted r.alike ends.0 ends.1 ends.2 e
 
   module _ (lent last : List ℕ) (Lent-is : lent ≡ vec_items r.words) (long : length last ≡ length lent) where
     -- the words have the rows of both
@@ -115,13 +109,13 @@ module _ (r : BitRegister) (v w : ℕ) (passed : carried ≡ checked ((not (with
       pub join_tallied : Tallied r.n (r.spare - 1) (vec_items (with_items r.words last))
       join_tallied =
           record {
-            alike = added_alike (joined r.n (vec_items r.words)) (joined r.n (vec_items (with_items r.words last))) v w ne r.alike r.apart change_added;
-            apart = added_apart (joined r.n (vec_items r.words)) (joined r.n (vec_items (with_items r.words last))) v w ne r.alike r.apart change_added;
-            counted = counted_added r.n r.spare (vec_items r.words) v w r.counted r.alike ends.0 ends.1 ne (vec_items (with_items r.words last)) unjoined change_added;
+            alike = added_alike (joined r.n (vec_items r.words)) (joined r.n (vec_items (with_items r.words last))) v w ends.2 r.alike r.apart change_added;
+            apart = added_apart (joined r.n (vec_items r.words)) (joined r.n (vec_items (with_items r.words last))) v w ends.2 r.alike r.apart change_added;
+            counted = counted_added r.n r.spare (vec_items r.words) v w r.counted r.alike ends.0 ends.1 ends.2 (vec_items (with_items r.words last)) unjoined change_added;
           }
 
       pub join_done : Joins (plan_of r) r.spare v w carried (kept r.n (vec_items (with_items r.words last))) (r.spare - 1)
-      join_done = join_made r.n r.spare (vec_items r.words) v w r.counted r.alike ends.0 ends.1 ne (vec_items (with_items r.words last)) unjoined change_added
+      join_done = join_made r.n r.spare (vec_items r.words) v w r.counted r.alike ends.0 ends.1 ends.2 (vec_items (with_items r.words last)) unjoined change_added
 
     module _ (joint : joined r.n (vec_items r.words) v w ≡ true) (unmarked : MatchBool (has_row lent v && has_row lent w) (Unmarks lent v w last) (last ≡ lent)) where
       change_taken : (a b : ℕ) → joined r.n (vec_items (with_items r.words last)) a b ≡ (not (same_pair v w a b) && joined r.n (vec_items r.words) a b)
@@ -132,10 +126,10 @@ module _ (r : BitRegister) (v w : ℕ) (passed : carried ≡ checked ((not (with
       pub cut_tallied : Tallied r.n (r.spare + 1) (vec_items (with_items r.words last))
       cut_tallied =
           record {
-            alike = taken_alike (joined r.n (vec_items r.words)) (joined r.n (vec_items (with_items r.words last))) v w ne r.alike r.apart change_taken;
-            apart = taken_apart (joined r.n (vec_items r.words)) (joined r.n (vec_items (with_items r.words last))) v w ne r.alike r.apart change_taken;
-            counted = counted_taken r.n r.spare (vec_items r.words) v w r.counted r.alike ends.0 ends.1 ne (vec_items (with_items r.words last)) joint change_taken;
+            alike = taken_alike (joined r.n (vec_items r.words)) (joined r.n (vec_items (with_items r.words last))) v w ends.2 r.alike r.apart change_taken;
+            apart = taken_apart (joined r.n (vec_items r.words)) (joined r.n (vec_items (with_items r.words last))) v w ends.2 r.alike r.apart change_taken;
+            counted = counted_taken r.n r.spare (vec_items r.words) v w r.counted r.alike ends.0 ends.1 ends.2 (vec_items (with_items r.words last)) joint change_taken;
           }
 
       pub cut_done : Cuts (plan_of r) r.spare v w carried (kept r.n (vec_items (with_items r.words last))) (r.spare + 1)
-      cut_done = cut_made r.n r.spare (vec_items r.words) v w r.counted r.alike ends.0 ends.1 ne (vec_items (with_items r.words last)) joint change_taken
+      cut_done = cut_made r.n r.spare (vec_items r.words) v w r.counted r.alike ends.0 ends.1 ends.2 (vec_items (with_items r.words last)) joint change_taken
