@@ -8,9 +8,6 @@ mod tests;
 ghost use Rattle.std.specs.Prelude.{◌≡◌, ◌==◌, not, position};
 ghost use Rattle.bitset.specs.Bits.{holds, Inserted, Removed, NextHeld};
 
-/// As many words as hold every `usize`: bits of later words stand for no number.
-const WORDS: usize = 1 << 58;
-
 /// Whether i is in the set; false for a number past the end of the words.
 pub fn contains(words: &[u64], i: usize) -> bool
     ensures { result ≡ holds words.now i }
@@ -59,7 +56,7 @@ pub fn next(words: &[u64], from: usize) -> Option<usize>
     }
     let later = first + 1;
     let k = later + first_filled(&words[later..])?;
-    // Bits of words past 2^58 stand for no number.
+    // Bits of words past 2^58 stand for no number that a `usize` holds.
     let start = k.checked_mul(64)?;
     Some(start + words[k].trailing_zeros() as usize)
 }

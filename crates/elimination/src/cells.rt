@@ -9,6 +9,7 @@ fn neighbours_below<P: ReadablePlan>(plan: &P, w: Junction) -> u32
     requires { (1 ≤ w.0) × (w.0 ≤ 512) }
     ensures { result ≡ count (λ v. (P.meaning plan.now).joins (suc v) w.0) (w.0 - 1) }
 {
+    // A loop: `count` of a chain is a usize, and what is added up here a u32.
     let mut found = 0;
     for v in neighbours(plan, w) {
         if v > w {

@@ -36,8 +36,9 @@ impl PlaceTable {
     pub(crate) fn place_of(&self, v: Junction) -> Place
         ensures { result.0 ≡ at self.now.places v.0 }
     {
-        Place(self.places.get(v.index()).map_or(0, |place| *place))
+        Place(self.places.get(v.index()).copied().unwrap_or(0))
     }
+
     /// Of two junctions the one at the earlier place, where the first may be missing.
     pub(crate) fn earlier(&self, best: Option<Junction>, u: Junction) -> Junction
         ensures { result ≡ earlier_of (at self.now.places) best u }

@@ -14,6 +14,8 @@ pub(crate) struct OrderedPlan<'a, P> {
     pub(crate) places: PlaceTable,
 }
 
+// That v is a junction of the plan is asked of each call: no type says it of a plan that is only
+// borrowed.
 impl<P: ReadablePlan> OrderedPlan<'_, P> {
     // The lowest junction above w that is joined to v by a pipe or by the fill found so far. No
     // iterator goes along them: while one junction takes over, the rows that it would hold change.
