@@ -86,6 +86,7 @@ pub(crate) fn lay_out(cells: &mut [u16], n: u16, c: u16)
     ensures { LaidOut n c cells.old cells.new }
 {
     clear(cells, n as usize + 4 * c as usize);
+    // By index, since two stretches are written at each.
     for p in 0..c {
         cells[(n + p) as usize] = n + p + 1;
         cells[(n + p + c) as usize] = c - p;

@@ -7,19 +7,19 @@ fn joins_and_cuts(rt: HostRuntime) -> Result<(), Fail> {
     let Ok(mut register) = ChainedRegister::new(5, 3, vec![in rt.alloc(); 9; 17]?) else {
         return Err(Fail::new("turned down"));
     };
-    assert!(rt; register.spare() == 3);
-    assert!(rt; register.join(Junction(4), Junction(5)).is_ok());
-    assert!(rt; register.join(Junction(4), Junction(1)).is_ok());
-    assert!(rt; register.join(Junction(3), Junction(4)).is_ok());
+    assert_eq!(rt; register.spare(), 3);
+    assert_eq!(rt; register.join(Junction(4), Junction(5)), Ok(()));
+    assert_eq!(rt; register.join(Junction(4), Junction(1)), Ok(()));
+    assert_eq!(rt; register.join(Junction(3), Junction(4)), Ok(()));
     assert!(rt; register.joined(Junction(5), Junction(4)));
-    assert!(rt; after(&register, 4, 0) == 1);
-    assert!(rt; after(&register, 4, 1) == 3);
-    assert!(rt; after(&register, 4, 3) == 5);
-    assert!(rt; after(&register, 4, 5) == 0);
-    assert!(rt; register.cut(Junction(4), Junction(3)).is_ok());
+    assert_eq!(rt; register.next(Junction(4), Junction(0)), Some(Junction(1)));
+    assert_eq!(rt; register.next(Junction(4), Junction(1)), Some(Junction(3)));
+    assert_eq!(rt; register.next(Junction(4), Junction(3)), Some(Junction(5)));
+    assert_eq!(rt; register.next(Junction(4), Junction(5)), None);
+    assert_eq!(rt; register.cut(Junction(4), Junction(3)), Ok(()));
     assert!(rt; !register.joined(Junction(3), Junction(4)));
-    assert!(rt; after(&register, 4, 1) == 5);
-    assert!(rt; register.spare() == 1);
+    assert_eq!(rt; register.next(Junction(4), Junction(1)), Some(Junction(5)));
+    assert_eq!(rt; register.spare(), 1);
     Ok(())
 }
 
@@ -29,14 +29,29 @@ fn cells_are_used_again(rt: HostRuntime) -> Result<(), Fail> {
         return Err(Fail::new("turned down"));
     };
     for _ in 0..10 {
-        assert!(rt; code(register.join(Junction(1), Junction(3))) == 0);
-        assert!(rt; code(register.join(Junction(1), Junction(2))) == 14);
-        assert!(rt; code(register.join(Junction(3), Junction(1))) == 12);
-        assert!(rt; code(register.cut(Junction(3), Junction(1))) == 0);
-        assert!(rt; code(register.cut(Junction(1), Junction(3))) == 13);
+        assert_eq!(rt; register.join(Junction(1), Junction(3)), Ok(()));
+        assert_eq!(rt;
+            register.join(Junction(1), Junction(2)),
+            Err(Refusal::NoSpare)
+        );
+        assert_eq!(rt;
+            register.join(Junction(3), Junction(1)),
+            Err(Refusal::JoinedAlready)
+        );
+        assert_eq!(rt; register.cut(Junction(3), Junction(1)), Ok(()));
+        assert_eq!(rt;
+            register.cut(Junction(1), Junction(3)),
+            Err(Refusal::NotJoined)
+        );
     }
-    assert!(rt; code(register.join(Junction(0), Junction(2))) == 2);
-    assert!(rt; code(register.join(Junction(2), Junction(2))) == 3);
+    assert_eq!(rt;
+        register.join(Junction(0), Junction(2)),
+        Err(Refusal::NoJunction)
+    );
+    assert_eq!(rt;
+        register.join(Junction(2), Junction(2)),
+        Err(Refusal::OneJunction)
+    );
     Ok(())
 }
 
@@ -45,22 +60,8 @@ fn gives_memory_back(rt: HostRuntime) -> Result<(), Fail> {
     let Err(turned) = ChainedRegister::new(3, 5, vec![in rt.alloc(); 7; 22]?) else {
         return Err(Fail::new("made"));
     };
-    assert!(rt; turned.refusal.code() == 8);
-    assert!(rt; turned.memory.len() == 22);
-    assert!(rt; turned.memory[0] == 7);
+    assert_eq!(rt; turned.refusal, Refusal::ShortMemory);
+    assert_eq!(rt; turned.memory.len(), 22);
+    assert_eq!(rt; turned.memory[0], 7);
     Ok(())
-}
-
-fn after(register: &ChainedRegister, v: u16, w: u16) -> u16 {
-    match register.next(Junction(v), Junction(w)) {
-        Some(u) => u.0,
-        None => 0,
-    }
-}
-
-fn code(answer: Result<(), Refusal>) -> u8 {
-    match answer {
-        Ok(()) => 0,
-        Err(refusal) => refusal.code(),
-    }
 }

@@ -24,7 +24,7 @@ module _ (m : Image) (c : Chained m) (v : ℕ) where
   at_end : (k low i : ℕ) → sound_from m v k low i ≡ true → Coming k low i → v ≤ low → low ≤ m.size → i ≡ 0 → steps m k i + uppers (plan_of m) v low ≡ uppers (plan_of m) v m.size
   unfolding Coming
   at_end k low i s coming a b e =
-      let none : NextNeighbour (plan_of m) v low None = seek_ends m c v low i a (record { room = k; low = low; sound = s; coming = coming }) e in
+      let none : NextNeighbour (plan_of m) v low None = seek_ends m c v low low i a (record { room = k; sound = s; coming = coming }) e in
       let z : steps m k i ≡ 0 = ap (steps m k) e ∙ steps_end m v k in
       omega (arith, uppers_end (plan_of m) v low m.size b none)
 
@@ -33,15 +33,15 @@ module _ (m : Image) (c : Chained m) (v : ℕ) where
   steps_uppers zero low i s coming a b = at_end 0 low i s coming a b (eqb-true i 0 s)
   steps_uppers (suc k) low i s coming a b = go (cases_eq i 0) (steps_uppers k (m.far i) (m.next i))
     where
-      seeking : Seeking m v low i
-      seeking = record { room = suc k; low = low; sound = s; coming = coming }
+      seeking : Seeking m v low low i
+      seeking = record { room = suc k; sound = s; coming = coming }
 
       go : (i ≡ 0) ⊎ (i ≢ 0) → (sound_from m v k (m.far i) (m.next i) ≡ true → ((j : ℕ) → 1 ≤ j → j ≤ m.records → m.near j ≡ v → m.far i < m.far j → reaches m k (m.next i) j ≡ true) → v ≤ m.far i → m.far i ≤ m.size → steps m k (m.next i) + uppers (plan_of m) v (m.far i) ≡ uppers (plan_of m) v m.size) → steps m (suc k) i + uppers (plan_of m) v low ≡ uppers (plan_of m) v m.size
       go (inl e) rest = at_end (suc k) low i s coming a b e
       go (inr ne) rest =
           let more = sound_more m v k low i ne s in
           let here : Member m v low i = follows_member m v low i ne more.0 in
-          let found : NextNeighbour (plan_of m) v low (Some (record { 0 = m.far i })) = seek_finds m c v low i (record { 0 = m.far i }) a seeking ne refl here.above in
+          let found : NextNeighbour (plan_of m) v low (Some (record { 0 = m.far i })) = seek_finds m c v low low i (record { 0 = m.far i }) a seeking ne refl here.above in
           let one : uppers (plan_of m) v (m.far i) ≡ uppers (plan_of m) v low + 1 = uppers_next (plan_of m) v low (m.far i) a found.0 found.1 found.2 in
           let after : steps m k (m.next i) + uppers (plan_of m) v (m.far i) ≡ uppers (plan_of m) v m.size = rest more.1 (λ j x y near l. later j l (or_cases (i == j) (reaches m k (m.next i) j) (sym (reaches_step m v k i j ne) ∙ coming j x y near (omega (arith, here.above))))) (omega (arith, here.above)) here.below in
           omega (arith, steps_step m v k i ne)

@@ -1,3 +1,5 @@
+pub mod ChainWalks
+pub mod CheckedReadings
 pub mod Countings
 pub mod Layouts
 pub mod Rising
@@ -5,5 +7,6 @@ pub mod RoundTrips
 pub mod Seeks
 pub mod SoundImages
 pub mod Stretches
+pub mod UpperWalks
 pub mod Uppers
 pub mod Writes

@@ -1,7 +1,7 @@
 -- The stretches of an image as they are written: what stands in front so far.
-use Rattle.std.proofs.Common.{◌≡◌, ℕ, zero, suc, ◌+◌, ◌-◌, ◌*◌, ◌/◌, ◌%◌, ◌<◌, ◌≤◌, Bool, true, false, cond, ◌&&◌, ltb, ◌⊎◌, List, [], ◌∷◌, ◌++◌, length, take, drop, set, Some, None, sym, refl, ap, ◌∙◌, ap₂, inl, inr, arith}
-use borrow.Rule.Slice.PartMut.{put_mid, post_of}
-use Rattle.std.proofs.lemmas.List.{append-nil, length-append, length-drop, nil_from_length, take_all}
+use Rattle.std.proofs.Common.{◌≡◌, ℕ, zero, suc, ◌+◌, ◌-◌, ◌*◌, ◌/◌, ◌%◌, ◌<◌, ◌≤◌, Bool, true, false, cond, ◌&&◌, ltb, ◌⊎◌, List, [], ◌∷◌, ◌++◌, length, take, get_or, Some, None, sym, refl, ap, ◌∙◌, ap₂, inl, inr, arith}
+use borrow.Rule.Slice.PartMut.{put_mid}
+use Rattle.std.proofs.lemmas.List.{append-nil, length-append, take_all, take_more}
 use Rattle.std.proofs.lemmas.Slice.{take-put_mid}
 use Rattle.std.proofs.lemmas.Bool.{and_from, and_left, lt-ltb, le-ltb}
 use Rattle.plan.specs.declared.number.Junction.{Junction}
@@ -9,7 +9,7 @@ use Rattle.plan.specs.Plans.{Plan, Sound, NextNeighbour, count}
 use Rattle.plan.proofs.Counts.{count_none}
 use Rattle.image.specs.Images.{bytes_of}
 use Rattle.image.specs.Writing.{upper, uppers, pipes_to, link, heads, chain_to, records_to}
-use Rattle.image.proofs.Uppers.{uppers_none, uppers_next, uppers_end, uppers_mono, pipes_to_step, link_some, link_none}
+use Rattle.image.proofs.Uppers.{uppers_none, uppers_next, uppers_mono, pipes_to_step, link_some, link_none}
 
 pub bytes_append : (xs ys : List ℕ) → bytes_of (xs ++ ys) ≡ bytes_of xs ++ bytes_of ys
 bytes_append [] ys = refl
@@ -18,24 +18,6 @@ bytes_append (x ∷ xs) ys = ap (λ zs. x % 256 ∷ x / 256 ∷ zs) (bytes_appen
 pub length_bytes : (xs : List ℕ) → length (bytes_of xs) ≡ 2 * length xs
 length_bytes [] = refl
 length_bytes (x ∷ xs) = omega (arith, length_bytes xs)
-
--- ---- fields in parts of two bytes
-
-pub two_bytes : (xs : List ℕ) (a b : ℕ) → length xs ≡ 2 → set (set xs 0 a) 1 b ≡ a ∷ b ∷ []
-two_bytes [] a b h = absurd (omega arith)
-two_bytes (x ∷ []) a b h = absurd (omega arith)
-two_bytes (x ∷ y ∷ []) a b h = refl
-two_bytes (x ∷ y ∷ z ∷ zs) a b h = absurd (omega arith)
-
-module _ (xs ls bs cs : List ℕ) (x y z : ℕ) (ls-are : ls ≡ bytes_of (x ∷ [])) (bs-are : bs ≡ bytes_of (y ∷ [])) (cs-are : cs ≡ bytes_of (z ∷ [])) where
-  pub three_fields : length xs ≡ 6 → put_mid 4 2 (put_mid 2 2 (ls ++ post_of 0 2 xs) bs) cs ≡ bytes_of (x ∷ y ∷ z ∷ [])
-  three_fields h =
-      rw (ls-are, bs-are, cs-are) (ap (λ t. x % 256 ∷ x / 256 ∷ y % 256 ∷ y / 256 ∷ z % 256 ∷ z / 256 ∷ t) (nil_from_length (drop 2 (drop 2 (drop 2 xs))) (simp length-drop (omega arith))))
-
-  pub four_fields : (ds : List ℕ) (w : ℕ) → ds ≡ bytes_of (w ∷ []) → length xs ≡ 8 → put_mid 6 2 (put_mid 4 2 (put_mid 2 2 (ls ++ post_of 0 2 xs) bs) cs) ds ≡ bytes_of (x ∷ y ∷ z ∷ w ∷ [])
-  four_fields ds w ds-are h =
-      rw (ls-are, bs-are, cs-are, ds-are)
-      (ap (λ t. x % 256 ∷ x / 256 ∷ y % 256 ∷ y / 256 ∷ z % 256 ∷ z / 256 ∷ w % 256 ∷ w / 256 ∷ t) (nil_from_length (drop 2 (drop 2 (drop 2 (drop 2 xs)))) (simp length-drop (omega arith))))
 
 -- ---- the next record
 
@@ -95,19 +77,10 @@ module _ (p : Plan) (s : Sound p) where
 
 -- ---- what stands in front
 
--- the records of v up to last stand in front of its stretch
-pub record ChainFront (p : Plan) (v before last index at : ℕ) (part : List ℕ) : Type 0 where
-  pub start : v ≤ last
-  pub few : last ≤ p.size
-  pub index_is : index ≡ before + uppers p v last
-  pub at_is : at ≡ 6 * uppers p v last
-  pub front : take at part ≡ bytes_of (chain_to p v last)
-
 -- the records of 1 to v
-pub record RecordsFront (p : Plan) (v before at : ℕ) (part : List ℕ) : Type 0 where
+pub record RecordsFront (p : Plan) (v before : ℕ) (part : List ℕ) : Type 0 where
   pub before_is : before ≡ pipes_to p v
-  pub at_is : at ≡ 6 * pipes_to p v
-  pub front : take at part ≡ bytes_of (records_to p v)
+  pub front : take (6 * before) part ≡ bytes_of (records_to p v)
 
 -- the heads of 1 to v
 pub record HeadsFront (p : Plan) (v before : ℕ) (part : List ℕ) : Type 0 where
@@ -143,66 +116,47 @@ front_more : (a k : ℕ) (xs ys fs gs : List ℕ) → take a xs ≡ bytes_of fs 
 front_more a k xs ys fs gs front ys-are l n e =
     take-put_mid a k xs ys n e l ∙ (ap₂ (λ (s t : List ℕ). s ++ t) front ys-are ∙ sym (bytes_append fs gs))
 
+-- fields written one behind another, and then the field at index i
+pub fields_go_on : (i k : ℕ) (xs ys fs : List ℕ) → i < length fs → length xs ≡ 2 * length fs → take (2 * i) xs ≡ bytes_of (take i fs) → ys ≡ bytes_of (get_or fs i 0 ∷ []) → take (2 * (i + 1)) (put_mid (2 * i) k xs ys) ≡ bytes_of (take (i + 1) fs)
+fields_go_on i k xs ys fs l long front ys-are =
+    front_more (2 * i) k xs ys (take i fs) (get_or fs i 0 ∷ []) front ys-are (omega arith) (2 * (i + 1)) (omega (arith, ap length ys-are)) ∙ ap bytes_of (sym (take_more fs i 0 l))
+
 module _ (p : Plan) (s : Sound p) where
-  pub chain_starts : (v before : ℕ) (part : List ℕ) → v ≤ p.size → ChainFront p v before v before 0 part
-  chain_starts v before part l =
-      record {
-        start = omega arith;
-        few = l;
-        index_is = omega (arith, uppers_none p v);
-        at_is = omega (arith, uppers_none p v);
-        front = ap bytes_of (sym (chain_none p s v));
-      }
+  -- k records of v, up to last, stand in front of its stretch: none at first
+  pub chain_starts : (v : ℕ) (part : List ℕ) → take (6 * 0) part ≡ bytes_of (chain_to p v v)
+  chain_starts v part = ap bytes_of (sym (chain_none p s v))
 
-  -- the link of the record just written
-  pub link_of : (v before last index at w next long : ℕ) (part : List ℕ) → ChainFront p v before last index at part → More p v last w → before ≡ pipes_to p (v - 1) → long ≡ 6 * uppers p v p.size → ((at + 6 < long) × (next ≡ (index + 1) + 1)) ⊎ ((long ≤ at + 6) × (next ≡ 0)) → next ≡ link p v w
-  link_of v before last index at w next long part f m before_is long-is (inl c) =
-      c.1 ∙ sym (link_some p v w (omega (arith, f.at_is, m.one, c.0)) ∙ omega (arith, f.index_is, m.one))
-  link_of v before last index at w next long part f m before_is long-is (inr c) = c.1 ∙ sym (link_none p v w (omega (arith, f.at_is, m.one, c.0)))
+  -- the link of the record that comes next
+  pub link_of : (v before last k w next long : ℕ) → k ≡ uppers p v last → More p v last w → before ≡ pipes_to p (v - 1) → long ≡ 6 * uppers p v p.size → ((6 * k + 6 < long) × (next ≡ (before + k) + 2)) ⊎ ((long ≤ 6 * k + 6) × (next ≡ 0)) → next ≡ link p v w
+  link_of v before last k w next long k_is m before_is long-is (inl c) = c.1 ∙ sym (link_some p v w (omega (arith, m.one, c.0)) ∙ omega (arith, m.one))
+  link_of v before last k w next long k_is m before_is long-is (inr c) = c.1 ∙ sym (link_none p v w (omega (arith, m.one, c.0)))
 
-  pub chain_goes_on : (v before last index at k next : ℕ) (w : Junction) (part ys : List ℕ) → ChainFront p v before last index at part → NextNeighbour p v last (Some w) → ys ≡ bytes_of (v ∷ w.0 ∷ next ∷ []) → next ≡ link p v w.0 → at + 6 ≤ length part → ChainFront p v before w.0 (index + 1) (at + 6) (put_mid at k part ys)
-  chain_goes_on v before last index at k next w part ys f n ys-are next-is room =
-      let m : More p v last w.0 = more p s v last w f.start n in
-      let long : length ys ≡ 6 = ap length ys-are in
-      record {
-        start = omega (arith, f.start, m.above);
-        few = m.below;
-        index_is = omega (arith, f.index_is, m.one);
-        at_is = omega (arith, f.at_is, m.one);
-        front =
-            front_more at k part ys (chain_to p v last) (v ∷ w.0 ∷ next ∷ []) f.front ys-are (omega arith) (at + 6) (omega arith)
-            ∙ ap bytes_of (ap (λ x. chain_to p v last ++ v ∷ w.0 ∷ x ∷ []) next-is ∙ sym (chain_more p s v last w.0 f.start n.0 n.1 n.2));
-      }
+  pub chain_goes_on : (v last k j next : ℕ) (w : Junction) (part ys : List ℕ) → v ≤ last → take (6 * k) part ≡ bytes_of (chain_to p v last) → NextNeighbour p v last (Some w) → ys ≡ bytes_of (v ∷ w.0 ∷ next ∷ []) → next ≡ link p v w.0 → 6 * k + 6 ≤ length part → take (6 * (k + 1)) (put_mid (6 * k) j part ys) ≡ bytes_of (chain_to p v w.0)
+  chain_goes_on v last k j next w part ys start front n ys-are next-is room =
+      front_more (6 * k) j part ys (chain_to p v last) (v ∷ w.0 ∷ next ∷ []) front ys-are (omega arith) (6 * (k + 1)) (omega (arith, ap length ys-are))
+      ∙ ap bytes_of (ap (λ x. chain_to p v last ++ v ∷ w.0 ∷ x ∷ []) next-is ∙ sym (chain_more p s v last w.0 start n.0 n.1 n.2))
 
-  pub chain_ends : (v before last index at : ℕ) (part : List ℕ) → ChainFront p v before last index at part → NextNeighbour p v last None → length part ≡ 6 * uppers p v p.size → part ≡ bytes_of (chain_to p v p.size)
-  chain_ends v before last index at part f none long =
-      let e : uppers p v p.size ≡ uppers p v last = uppers_end p v last p.size f.few none in
-      sym (take_all at part (omega (arith, f.at_is))) ∙ (f.front ∙ ap bytes_of (sym (chain_end p s v last f.few none)))
+  pub chain_ends : (v last k : ℕ) (part : List ℕ) → last ≤ p.size → k ≡ uppers p v p.size → take (6 * k) part ≡ bytes_of (chain_to p v last) → NextNeighbour p v last None → length part ≡ 6 * uppers p v p.size → part ≡ bytes_of (chain_to p v p.size)
+  chain_ends v last k part few k_is front none long = sym (take_all (6 * k) part (omega arith)) ∙ (front ∙ ap bytes_of (sym (chain_end p s v last few none)))
 
 module _ (p : Plan) where
-  pub records_start : (part : List ℕ) → RecordsFront p 0 0 0 part
+  pub records_start : (part : List ℕ) → RecordsFront p 0 0 part
   unfolding pipes_to records_to
-  records_start part = record { before_is = refl; at_is = refl; front = refl }
+  records_start part = record { before_is = refl; front = refl }
 
-  pub records_go_on : (v before at k found end : ℕ) (part ys : List ℕ) → 1 ≤ v → RecordsFront p (v - 1) before at part → found ≡ uppers p v p.size → end ≡ at + 6 * found → ys ≡ bytes_of (chain_to p v p.size) → end ≤ length part → RecordsFront p (v + 1 - 1) (before + found) end (put_mid at k part ys)
+  pub records_go_on : (v before k found : ℕ) (part ys : List ℕ) → 1 ≤ v → RecordsFront p (v - 1) before part → found ≡ uppers p v p.size → ys ≡ bytes_of (chain_to p v p.size) → 6 * (before + found) ≤ length part → RecordsFront p (v + 1 - 1) (before + found) (put_mid (6 * before) k part ys)
   unfolding records_to
-  records_go_on zero before at k found end part ys a f found-is end_is ys-are room = absurd (omega arith)
-  records_go_on (suc v) before at k found end part ys a f found-is end_is ys-are room =
+  records_go_on zero before k found part ys a f found-is ys-are room = absurd (omega arith)
+  records_go_on (suc v) before k found part ys a f found-is ys-are room =
       let e : suc v + 1 - 1 ≡ suc v = omega arith in
       let d : suc v - 1 ≡ v = omega arith in
-      let f' : RecordsFront p v before at part = rw d at f in
+      let f' : RecordsFront p v before part = rw d at f in
       let step : pipes_to p (suc v) ≡ pipes_to p v + uppers p (suc v) p.size = rw d at (pipes_to_step p (suc v) (omega arith)) in
       let long : length ys ≡ 6 * found = ap length ys-are ∙ (length_bytes (chain_to p (suc v) p.size) ∙ omega (arith, length_chain p (suc v) p.size)) in
       rw e (record {
         before_is = omega (arith, f'.before_is);
-        at_is = omega (arith, f'.at_is);
-        front = front_more at k part ys (records_to p v) (chain_to p (suc v) p.size) f'.front ys-are (omega arith) end (omega arith);
+        front = front_more (6 * before) k part ys (records_to p v) (chain_to p (suc v) p.size) f'.front ys-are (omega arith) (6 * (before + found)) (omega arith);
       })
-
-  pub records_end : (v before at : ℕ) (part : List ℕ) → v ≡ p.size → RecordsFront p v before at part → length part ≡ 6 * pipes_to p p.size → part ≡ bytes_of (records_to p p.size)
-  records_end v before at part e f long =
-      let f' : RecordsFront p p.size before at part = rw e at f in
-      sym (take_all at part (omega (arith, f'.at_is))) ∙ f'.front
 
   pub heads_start : (part : List ℕ) → HeadsFront p 0 0 part
   unfolding pipes_to heads
@@ -226,8 +180,3 @@ module _ (p : Plan) where
         before_is = omega (arith, f'.before_is);
         front = front_more (2 * v) k part ys (heads p v) (head ∷ []) f'.front ys-are (omega arith) (2 * suc v) (omega arith) ∙ ap (λ x. bytes_of (heads p v ++ x ∷ [])) head_is;
       })
-
-  pub heads_end : (v before : ℕ) (part : List ℕ) → v ≡ p.size → HeadsFront p v before part → length part ≡ 2 * p.size → part ≡ bytes_of (heads p p.size)
-  heads_end v before part e f long =
-      let f' : HeadsFront p p.size before part = rw e at f in
-      sym (take_all (2 * p.size) part (omega arith)) ∙ f'.front

@@ -1,9 +1,11 @@
 -- The neighbours of a junction above it, and the indices of their records.
 use Rattle.std.specs.Prelude.{◌≡◌, ℕ, zero, suc, ◌+◌, ◌-◌, ◌*◌, ◌<◌, ◌≤◌, Bool, true, false, cond, ◌&&◌, ◌⊎◌, nat_lt}
+use Rattle.std.specs.List.{range_with_len, sum_by}
 use Rattle.std.proofs.Math.Path.{refl, ap}
 use Rattle.std.proofs.Common.{sym, ◌∙◌, inl, inr}
 use native.Mathlib.Omega.{arith}
 use Rattle.std.proofs.lemmas.Bool.{cases_lt, cases_Bool, and_from, and_left, lt-ltb, le-ltb}
+use Rattle.std.proofs.lemmas.List.Sums.{sum_by-cons}
 use Rattle.std.proofs.lemmas.Nat.{mul-le}
 use Rattle.plan.specs.Plans.{Plan, count, pairs}
 use Rattle.plan.proofs.Counts.{count-le, count_none, count_flat}
@@ -116,6 +118,10 @@ module _ (p : Plan) where
   pub pipes_to_le : (a b : ℕ) → a ≤ b → pipes_to p a ≤ pipes_to p b
   pipes_to_le a b l = let e : (b - a) + a ≡ b = omega arith in rw e at (pipes_to_mono a (b - a))
 
+  -- the pipes of one junction behind those of lower junctions
+  pub pipes_part : (v : ℕ) → 1 ≤ v → v ≤ p.size → pipes_to p (v - 1) + uppers p v p.size ≤ pipes_to p p.size
+  pipes_part v a l = omega (arith, pipes_to_step v a, pipes_to_le v p.size l)
+
   pub pipes_to_most : (v : ℕ) → pipes_to p v ≤ suc p.size * v
   unfolding pipes_to
   pipes_to_most zero = omega arith
@@ -162,9 +168,18 @@ module _ (p : Plan) where
   pub pipes_pairs : pipes_to p p.size ≡ pairs p.joins p.size
   pipes_pairs = sym (rows_to p.size) ∙ rows_pairs p.size
 
-  -- a step of a loop over the lower ends
-  pub pipes_to_next : (v : ℕ) → 1 ≤ v → pipes_to p (v + 1 - 1) ≡ pipes_to p (v - 1) + uppers p v p.size
-  pipes_to_next v a = let e : v + 1 - 1 ≡ v = omega arith in rw e (pipes_to_step p v a)
-
   pub pipes_to_few : (v : ℕ) → p.size ≤ 512 → v ≤ p.size → pipes_to p v ≤ 262656
   pipes_to_few v few l = omega (arith, pipes_to_most p v, mul-le (suc p.size) v 513 512 (omega arith) (omega arith))
+
+  -- the neighbours above each of n junctions from b + 1 on
+  pipes_from : (n b : ℕ) → pipes_to p b + sum_by (λ v. uppers p v p.size) (range_with_len (b + 1) n) ≡ pipes_to p (b + n)
+  pipes_from zero b = let e : b + 0 ≡ b = omega arith in rw e (omega arith)
+  pipes_from (suc n) b =
+      let e : b + suc n ≡ (b + 1) + n = omega arith in
+      let d : b + 1 - 1 ≡ b = omega arith in
+      let s : pipes_to p (b + 1) ≡ pipes_to p b + uppers p (b + 1) p.size = rw d at (pipes_to_step p (b + 1) (omega arith)) in
+      rw (e, sum_by-cons) (omega (arith, pipes_from n (b + 1)))
+
+  pub pipes_summed : (n : ℕ) → sum_by (λ v. uppers p v p.size) (range_with_len 1 n) ≡ pipes_to p n
+  unfolding pipes_to
+  pipes_summed n = let e : 0 + n ≡ n = omega arith in omega (arith, rw e at (pipes_from n 0))

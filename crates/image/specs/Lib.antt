@@ -4,6 +4,7 @@ pub mod Images
 pub mod Laws
 pub mod Ranges
 pub mod Reading
+pub mod Records
 pub mod Worked
 pub mod Writing
 pub mod CheckedPlans

@@ -1,108 +1,126 @@
 //! The chains of an image.
 ghost use Rattle.std.specs.Prelude.{◌≡◌, ◌≤◌, true};
+ghost use Rattle.std.specs.Iterator.{at_most};
+ghost use Rattle.std.specs.NonZero.{non_zero_u16_get};
 ghost use Rattle.plan.specs.Plans.{NextNeighbour, within};
 ghost use Rattle.plan.specs.Refusals.{heard};
 ghost use Rattle.image.specs.Chains.{plan_of};
 ghost use Rattle.image.specs.Images.{image_of};
-ghost use Rattle.image.specs.Reading.{Laid, Walked, chains_verdict, is_sound};
+ghost use Rattle.image.specs.Records.{index_field, RecordOf, FollowerOf, ChainSteps, steps_left};
+ghost use Rattle.image.specs.Reading.{Walked, chains_verdict, is_sound};
 
 use crate::fields::read;
-use crate::header::Header;
+use crate::layout::Layout;
+use crate::record::{Record, record_start};
 use plan::{Junction, Refusal};
+use std::num::NonZeroU16;
 
-/// A record of an image.
-#[derive(Clone, Copy)]
-pub(crate) struct Record {
-    pub(crate) near: u16,
-    pub(crate) far: u16,
-    pub(crate) next: u16,
+/// A walk along the chain of `of`, behind a far end `low`: the far ends of its records. It meets a
+/// record that may not follow as `None`, and nothing behind it.
+#[derive(Drop)]
+struct Chain<'a> {
+    image: Layout<'a>,
+    of: Junction,
+    low: Junction,
+    at: Option<NonZeroU16>,
 }
 
-/// The index of the first record of junction v, or 0.
-pub(crate) fn head_of(bytes: &[u8], header: Header, v: u16) -> u16
-    requires laid { Laid bytes.now header }
-    requires inside { (1 ≤ v) × (v ≤ header.n) }
-    ensures { result ≡ (image_of bytes.now).head v }
-{
-    read(bytes, 8 + 2 * (v as usize - 1))
-}
+impl Iterator for Chain<'_> {
+    type Item = Option<Junction>;
 
-/// The record of index i.
-pub(crate) fn record_of(bytes: &[u8], header: Header, i: u16) -> Record
-    requires laid { Laid bytes.now header }
-    requires inside { (1 ≤ i) × (i ≤ header.records) }
-    ensures near { result.near ≡ (image_of bytes.now).near i }
-    ensures far { result.far ≡ (image_of bytes.now).far i }
-    ensures next { result.next ≡ (image_of bytes.now).next i }
-{
-    let at = 8 + 2 * header.n as usize + 6 * (i as usize - 1);
-    Record {
-        near: read(bytes, at),
-        far: read(bytes, at + 2),
-        next: read(bytes, at + 4),
+    ghost next_gives = { ChainSteps };
+
+    ghost remaining = { λ s. at_most (steps_left s) };
+
+    fn next(&mut self) -> Option<Option<Junction>> {
+        let i = self.at.take()?;
+        let found = self.image.follower(self.of, self.low, i);
+        if let Some(found) = found {
+            self.low = found.far;
+            self.at = found.next;
+        }
+        Some(found.map(|found| found.far))
     }
 }
 
-/// How many records the chain of v has, or `None` where it is faulty.
-fn chain_length(bytes: &[u8], header: Header, v: u16) -> Option<u16>
-    requires laid { Laid bytes.now header }
-    requires inside { (1 ≤ v) × (v ≤ header.n) }
-    ensures { Walked (image_of bytes.now) v result }
-{
-    let mut i = head_of(bytes, header, v);
-    let mut low = v;
-    let mut passed = 0;
-    while i != 0 {
-        if i > header.records {
+impl<'a> Layout<'a> {
+    /// The record of index i, or `None` above the number of records.
+    fn record(&self, i: NonZeroU16) -> Option<Record>
+        ensures { RecordOf (image_of self.now.bytes.now) (non_zero_u16_get i) result }
+    {
+        if i.get() > self.header.records {
             return None;
         }
-        let found = record_of(bytes, header, i);
-        if found.near != v || found.far <= low || found.far > header.n {
+        Some(Record::read(self.bytes, record_start(self.header.n, i)))
+    }
+
+    /// The record of index i, where it may follow a far end `low` in the chain of v.
+    fn follower(&self, v: Junction, low: Junction, i: NonZeroU16) -> Option<Record>
+        ensures { FollowerOf (image_of self.now.bytes.now) v.0 low.0 (non_zero_u16_get i) result }
+    {
+        let found = self.record(i)?;
+        if found.near != v || found.far <= low || found.far.0 > self.header.n {
             return None;
         }
-        i = found.next;
-        low = found.far;
-        passed += 1;
+        Some(found)
     }
-    Some(passed)
-}
 
-/// The lowest far end above w in the chain of v, where w is v or above: in a sound image, v's next
-/// neighbour after w.
-pub(crate) fn next_above(bytes: &[u8], header: Header, v: Junction, w: Junction) -> Option<Junction>
-    requires laid { Laid bytes.now header }
-    requires sound { is_sound bytes.now ≡ true }
-    requires inside { within header.n v.0 ≡ true }
-    requires upper { v.0 ≤ w.0 }
-    ensures { NextNeighbour (plan_of (image_of bytes.now)) v.0 w.0 result }
-{
-    let mut i = head_of(bytes, header, v.0);
-    while i != 0 {
-        let found = record_of(bytes, header, i);
-        if found.far > w.0 {
-            return Some(Junction(found.far));
+    /// The chain of v, from its first record on.
+    fn chain(&self, v: Junction) -> Chain<'a>
+        requires { within self.now.header.n v.0 ≡ true }
+        ensures image { result.image ≡ self.now }
+        ensures of { result.of ≡ v }
+        ensures low { result.low ≡ v }
+        ensures at { index_field result.at ≡ (image_of self.now.bytes.now).head v.0 }
+    {
+        Chain {
+            image: *self,
+            of: v,
+            low: v,
+            at: NonZeroU16::new(read(self.bytes, 8 + 2 * v.index())),
         }
-        i = found.next;
     }
-    None
-}
 
-/// Turned down by 6 with the junction of the first faulty chain, or with junction 0 where every
-/// chain is sound and a record is in none.
-pub(crate) fn check_chains(bytes: &[u8], header: Header) -> Result<(), Refusal>
-    requires { Laid bytes.now header }
-    ensures { heard result ≡ chains_verdict (image_of bytes.now) }
-{
-    let mut reached = 0;
-    for v in 1..header.n + 1 {
-        let Some(passed) = chain_length(bytes, header, v) else {
-            return Err(Refusal::ChainFault(Junction(v)));
-        };
-        // No record is in two chains, for its near end tells which, so none is counted twice.
-        reached += passed;
+    /// How many records the chain of v has, or `None` where it is faulty.
+    fn chain_length(&self, v: Junction) -> Option<u16>
+        requires { within self.now.header.n v.0 ≡ true }
+        ensures { Walked (image_of self.now.bytes.now) v.0 result }
+    {
+        let mut passed = 0;
+        for far in self.chain(v) {
+            far?;
+            passed += 1;
+        }
+        Some(passed)
     }
-    if reached != header.records {
-        return Err(Refusal::ChainFault(Junction(0)));
+
+    /// The lowest far end above w in the chain of v, where w is v or above: in a sound image, v's
+    /// next neighbour after w.
+    pub(crate) fn next_above(&self, v: Junction, w: Junction) -> Option<Junction>
+        requires sound { is_sound self.now.bytes.now ≡ true }
+        requires inside { within self.now.header.n v.0 ≡ true }
+        requires upper { v.0 ≤ w.0 }
+        ensures { NextNeighbour (plan_of (image_of self.now.bytes.now)) v.0 w.0 result }
+    {
+        self.chain(v)
+            .find(|far| far.is_some_and(|far| far > w))
+            .flatten()
     }
-    Ok(())
+
+    /// Turned down by 6 with the junction of the first faulty chain, or with junction 0 where every
+    /// chain is sound and a record is in none.
+    pub(crate) fn check_chains(&self) -> Result<(), Refusal>
+        ensures { heard result ≡ chains_verdict (image_of self.now.bytes.now) }
+    {
+        let mut reached = 0;
+        for v in 1..self.header.n + 1 {
+            let v = Junction(v);
+            // No record is in two chains, for its near end tells which, so none is counted twice.
+            reached += self.chain_length(v).ok_or(Refusal::ChainFault(v))?;
+        }
+        if reached != self.header.records {
+            return Err(Refusal::ChainFault(Junction(0)));
+        }
+        Ok(())
+    }
 }

@@ -6,7 +6,7 @@ ghost use Rattle.image.specs.Images.{bytes_of, field};
 pub(crate) fn number(low: u8, high: u8) -> u16
     ensures { result ≡ low + 256 * high }
 {
-    low as u16 + 256 * high as u16
+    u16::from_le_bytes([low, high])
 }
 
 /// The field whose low byte stands at index `at`.
@@ -22,16 +22,16 @@ pub(crate) fn put(part: &mut [u8], x: u16)
     requires { length part.old ≡ 2 }
     ensures { part.new ≡ bytes_of (x ∷ []) }
 {
-    part[0] = (x % 256) as u8;
-    part[1] = (x / 256) as u8;
+    part.copy_from_slice(&x.to_le_bytes());
 }
 
-/// Writes the record of three fields into its six bytes.
-pub(crate) fn put_record(part: &mut [u8], near: u16, far: u16, next: u16)
-    requires { length part.old ≡ 6 }
-    ensures { part.new ≡ bytes_of (near ∷ far ∷ next ∷ []) }
+/// Writes fields into their stretch, one behind another.
+pub(crate) fn put_all(part: &mut [u8], fields: &[u16])
+    requires { length part.old ≡ 2 * length fields.now }
+    ensures { part.new ≡ bytes_of fields.now }
 {
-    put(&mut part[0..2], near);
-    put(&mut part[2..4], far);
-    put(&mut part[4..6], next);
+    // By index: of chunks that were lent a proof knows the length alone afterwards.
+    for (i, x) in fields.iter().enumerate() {
+        put(&mut part[2 * i..2 * i + 2], *x);
+    }
 }

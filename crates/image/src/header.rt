@@ -7,7 +7,7 @@ pub(crate) const MOST_JUNCTIONS: u16 = 512;
 pub(crate) const MOST_RECORDS: u16 = 8000;
 
 /// The length of the longest image.
-pub const IMAGE_LIMIT: usize = 8 + 2 * 512 + 6 * 8000;
+pub const IMAGE_LIMIT: usize = 8 + 2 * MOST_JUNCTIONS as usize + 6 * MOST_RECORDS as usize;
 
 /// The edition of the format.
 pub(crate) const EDITION: u16 = 1;

@@ -7,7 +7,9 @@ mod checked;
 mod fields;
 mod header;
 mod laws;
+mod layout;
 mod reader;
+mod record;
 #[cfg(test)]
 mod tests;
 mod writer;

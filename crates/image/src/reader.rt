@@ -1,17 +1,21 @@
 //! Reading an image.
-ghost use Rattle.std.specs.Prelude.{◌≡◌};
+ghost use Rattle.std.specs.Prelude.{◌≡◌, IfOk};
+ghost use Rattle.std.specs.Result.{result_map_both};
 ghost use Rattle.plan.specs.Refusals.{heard};
 ghost use Rattle.image.specs.Reading.{read_verdict, HeaderOf, HeaderRead, RecordEnds};
 
-use crate::chains::check_chains;
 use crate::fields::{number, read};
 use crate::header::{EDITION, Header, MOST_JUNCTIONS, MOST_RECORDS};
+use crate::layout::Layout;
+use crate::record::{Record, record_start};
 use plan::{Junction, Refusal};
+use std::num::NonZeroU16;
 
-/// The header, where its fields are in their ranges and the length is the one that it says. Turned
-/// down by 4, 5, 4 else.
-fn read_header(bytes: &[u8]) -> Result<Header, Refusal>
-    ensures { HeaderRead bytes.now result }
+/// The layout of the bytes, where the fields of the header are in their ranges and the length is the
+/// one that it says. Turned down by 4, 5, 4 else.
+fn read_header(bytes: &[u8]) -> Result<Layout<'_>, Refusal>
+    ensures bytes { IfOk result (λ image. image.bytes.now ≡ bytes.now) }
+    ensures header { HeaderRead bytes.now (result_map_both (λ image. image.header) (λ refusal. refusal) result) }
 {
     let [
         n_low,
@@ -37,7 +41,10 @@ fn read_header(bytes: &[u8]) -> Result<Header, Refusal>
     if rest.len() != 2 * n as usize + 6 * records as usize {
         return Err(Refusal::ImageLength);
     }
-    Ok(Header { n, records })
+    Ok(Layout {
+        bytes,
+        header: Header { n, records },
+    })
 }
 
 /// The header of a sound image. Turned down by 4 under 8 bytes, 5 where a field of the header is
@@ -47,14 +54,9 @@ pub fn check(bytes: &[u8]) -> Result<Header, Refusal>
     ensures says { heard result ≡ read_verdict bytes.now }
     ensures header { HeaderOf bytes.now result }
 {
-    let header = match read_header(bytes) {
-        Ok(header) => header,
-        Err(refusal) => return Err(refusal),
-    };
-    match check_chains(bytes, header) {
-        Ok(()) => Ok(header),
-        Err(refusal) => Err(refusal),
-    }
+    let image = read_header(bytes)?;
+    image.check_chains()?;
+    Ok(image.header)
 }
 
 /// The near and the far end of the record of index i, counted from 1, or `None` where the bytes end
@@ -62,12 +64,14 @@ pub fn check(bytes: &[u8]) -> Result<Header, Refusal>
 pub fn record_ends(bytes: &[u8], i: u16) -> Option<(Junction, Junction)>
     ensures { RecordEnds bytes.now i result }
 {
-    if i == 0 || bytes.len() < 8 {
+    let i = NonZeroU16::new(i)?;
+    if bytes.len() < 8 {
         return None;
     }
-    let at = 8 + 2 * read(bytes, 0) as usize + 6 * (i as usize - 1);
+    let at = record_start(read(bytes, 0), i);
     if bytes.len() < at + 6 {
         return None;
     }
-    Some((Junction(read(bytes, at)), Junction(read(bytes, at + 2))))
+    let record = Record::read(bytes, at);
+    Some((record.near, record.far))
 }

@@ -3,44 +3,25 @@ ghost use Rattle.std.specs.Prelude.{◌≡◌, ◌+◌, ◌-◌, ◌*◌, ◌≤
 ghost use Rattle.image.specs.Images.{bytes_of};
 ghost use Rattle.image.specs.Writing.{chain_to, heads, pipes_to, records_to, uppers, Writing};
 
-use crate::fields::{put, put_record};
+use crate::fields::{put, put_all};
 use crate::header::{EDITION, MOST_RECORDS};
-use plan::{Junction, ReadablePlan, Refusal};
+use plan::{Junction, ReadablePlan, Refusal, neighbours_above};
 
 /// How many neighbours of v are above it.
-fn upper_count<P: ReadablePlan>(plan: &P, v: Junction) -> u16
+fn upper_count<P: ReadablePlan>(plan: &P, v: Junction) -> usize
     requires { v.0 ≤ (P.ReadablePlan.meaning plan.now).size }
     ensures { result ≡ uppers (P.ReadablePlan.meaning plan.now) v.0 (P.ReadablePlan.meaning plan.now).size }
 {
-    let mut found = 0;
-    let mut last = v;
-    while let Some(w) = plan.next(v, last) {
-        found += 1;
-        last = w;
-    }
-    found
+    neighbours_above(plan, v, v).count()
 }
 
 /// How many pipes the plan has.
-fn pipe_count<P: ReadablePlan>(plan: &P) -> u32
+fn pipe_count<P: ReadablePlan>(plan: &P) -> usize
     ensures { result ≡ pipes_to (P.ReadablePlan.meaning plan.now) (P.ReadablePlan.meaning plan.now).size }
 {
-    let mut found = 0;
-    for v in 1..plan.size() + 1 {
-        found += upper_count(plan, Junction(v)) as u32;
-    }
-    found
-}
-
-/// Writes the header into its eight bytes.
-fn write_header(part: &mut [u8], n: u16, records: u16)
-    requires { length part.old ≡ 8 }
-    ensures { part.new ≡ bytes_of (n ∷ records ∷ 1 ∷ 0 ∷ []) }
-{
-    put(&mut part[0..2], n);
-    put(&mut part[2..4], records);
-    put(&mut part[4..6], EDITION);
-    put(&mut part[6..8], 0);
+    (1..plan.size() + 1)
+        .map(|v| upper_count(plan, Junction(v)))
+        .sum()
 }
 
 /// Writes the heads into their stretch, one field for each junction.
@@ -51,32 +32,34 @@ fn write_heads<P: ReadablePlan>(plan: &P, part: &mut [u8])
 {
     let mut before = 0;
     for v in 1..plan.size() + 1 {
-        let found = upper_count(plan, Junction(v));
-        let head = if found == 0 { 0 } else { before + 1 };
-        let at = 2 * (v as usize - 1);
+        let v = Junction(v);
+        let found = upper_count(plan, v);
+        // A junction without records has the head 0.
+        let head = if found == 0 { 0 } else { before as u16 + 1 };
+        let at = 2 * v.index();
         put(&mut part[at..at + 2], head);
         before += found;
     }
 }
 
 /// Writes the chain of v into its stretch, behind `before` records of lower junctions.
-fn write_chain<P: ReadablePlan>(plan: &P, v: Junction, before: u16, part: &mut [u8])
+fn write_chain<P: ReadablePlan>(plan: &P, v: Junction, before: usize, part: &mut [u8])
     requires inside { (1 ≤ v.0) × (v.0 ≤ (P.ReadablePlan.meaning plan.now).size) }
     requires before { before ≡ pipes_to (P.ReadablePlan.meaning plan.now) (v.0 - 1) }
     requires few { before ≤ 8000 }
     requires long { length part.old ≡ 6 * uppers (P.ReadablePlan.meaning plan.now) v.0 (P.ReadablePlan.meaning plan.now).size }
     ensures { part.new ≡ bytes_of (chain_to (P.ReadablePlan.meaning plan.now) v.0 (P.ReadablePlan.meaning plan.now).size) }
 {
-    let mut index = before;
-    let mut at = 0;
-    let mut last = v;
-    while let Some(w) = plan.next(v, last) {
-        index += 1;
+    for (k, w) in neighbours_above(plan, v, v).enumerate() {
+        let at = 6 * k;
         let end = at + 6;
-        let next = if end < part.len() { index + 1 } else { 0 };
-        put_record(&mut part[at..end], v.0, w.0, next);
-        at = end;
-        last = w;
+        // The last record of a chain has the link 0.
+        let next = if end < part.len() {
+            (before + k) as u16 + 2
+        } else {
+            0
+        };
+        put_all(&mut part[at..end], &[v.0, w.0, next]);
     }
 }
 
@@ -87,13 +70,11 @@ fn write_records<P: ReadablePlan>(plan: &P, part: &mut [u8])
     ensures { part.new ≡ bytes_of (records_to (P.ReadablePlan.meaning plan.now) (P.ReadablePlan.meaning plan.now).size) }
 {
     let mut before = 0;
-    let mut at = 0;
     for v in 1..plan.size() + 1 {
-        let found = upper_count(plan, Junction(v));
-        let end = at + 6 * found as usize;
-        write_chain(plan, Junction(v), before, &mut part[at..end]);
-        before += found;
-        at = end;
+        let v = Junction(v);
+        let after = before + upper_count(plan, v);
+        write_chain(plan, v, before, &mut part[6 * before..6 * after]);
+        before = after;
     }
 }
 
@@ -105,15 +86,15 @@ pub fn write<P: ReadablePlan>(plan: &P, out: &mut [u8]) -> Result<usize, Refusal
 {
     let n = plan.size();
     let records = pipe_count(plan);
-    if records > MOST_RECORDS as u32 {
+    if records > MOST_RECORDS as usize {
         return Err(Refusal::TooManyPipes);
     }
     let first = 8 + 2 * n as usize;
-    let long = first + 6 * records as usize;
+    let long = first + 6 * records;
     if out.len() < long {
         return Err(Refusal::ShortMemory);
     }
-    write_header(&mut out[0..8], n, records as u16);
+    put_all(&mut out[0..8], &[n, records as u16, EDITION, 0]);
     write_heads(plan, &mut out[8..first]);
     write_records(plan, &mut out[first..long]);
     Ok(long)

@@ -30,8 +30,7 @@ impl fmt::Display for Junction {
     ghost output = { λ j. Some (decimal j.0) };
 
     fn fmt<W: fmt::Write>(&self, f: &mut fmt::Formatter<W>) -> fmt::Result {
-        let number = self.0;
-        write!(f, "{number}")
+        write!(f, "{}", self.0)
     }
 }
 

@@ -81,8 +81,7 @@ impl fmt::Display for Refusal {
     ghost output = { λ r. Some (decimal (number r)) };
 
     fn fmt<W: fmt::Write>(&self, f: &mut fmt::Formatter<W>) -> fmt::Result {
-        let number = self.code();
-        write!(f, "{number}")
+        write!(f, "{}", self.code())
     }
 }
 

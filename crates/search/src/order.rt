@@ -52,6 +52,7 @@ fn choose<K: Kind>(kind: &K, p: usize, places: &[Junction], labels: &[K::Label])
     requires apart { (i j : ℕ) → i < j → j ≤ p → at places.now i ≢ at places.now j }
     ensures { Chosen (K.Kind.compared kind.now) places.now labels.now p result }
 {
+    // By index, since the index of the best is what is answered.
     let mut best = 0;
     for i in 1..p + 1 {
         if is_before(kind, places[i], places[best], labels) {

@@ -7,6 +7,7 @@ mod listing;
 mod maker;
 mod run;
 
+pub use calls::{Answer, Listener, Lists, Outcome};
 pub use listing::Listing;
 pub use maker::Maker;
 pub use run::{KindOfLabel, LabelOfVisit, SHEET_LIMIT, visit};

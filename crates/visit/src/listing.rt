@@ -48,8 +48,7 @@ fn write_order<W: fmt::Write>(
 fn write_fill<W: fmt::Write>(f: &mut fmt::Formatter<W>, report: Report) -> fmt::Result
     ensures { WritesOnOk W.Write.write_str_gives f.old result (fill_line report) f.new }
 {
-    let fill = report.fill;
-    let cells = report.cells;
+    let Report { fill, cells, .. } = report;
     writeln!(f, "fill {fill} cells {cells}")
 }
 

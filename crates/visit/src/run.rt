@@ -154,14 +154,13 @@ fn new_size(line: &[u8]) -> Option<u16>
 fn set_call(line: &[u8]) -> Option<Call<'_, KindOfLabel>>
     ensures { SetCall line.now result }
 {
-    match read_call(line) {
-        Some(Spelled::Join(v, w)) => Some(Call::Join(v, w)),
-        Some(Spelled::Cut(v, w)) => Some(Call::Cut(v, w)),
-        Some(Spelled::Shut(v)) => Some(Call::Shut(v)),
-        Some(Spelled::Open(v)) => Some(Call::Open(v)),
-        Some(Spelled::OrderLexicographic) => Some(Call::Order(Either::First(Lexicographic))),
-        Some(Spelled::OrderCounting) => Some(Call::Order(Either::Second(Counting))),
-        Some(Spelled::New(_)) => None,
-        None => None,
-    }
+    Some(match read_call(line)? {
+        Spelled::Join(v, w) => Call::Join(v, w),
+        Spelled::Cut(v, w) => Call::Cut(v, w),
+        Spelled::Shut(v) => Call::Shut(v),
+        Spelled::Open(v) => Call::Open(v),
+        Spelled::OrderLexicographic => Call::Order(Either::First(Lexicographic)),
+        Spelled::OrderCounting => Call::Order(Either::Second(Counting)),
+        Spelled::New(_) => return None,
+    })
 }

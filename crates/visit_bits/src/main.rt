@@ -17,6 +17,8 @@ use std::io;
 use visit::Maker;
 
 // Makes a bit register in the memory that it holds.
+// It is like the maker of `visit_chained`, but states another spare and another bound of memory: one
+// generic maker would take both by a trait of its own, and each program still write its impl.
 #[derive(Drop)]
 struct BitMaker {
     memory: Vec<u64>,

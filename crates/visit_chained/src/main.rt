@@ -17,6 +17,8 @@ use visit::Maker;
 const PIPES: u16 = 8000;
 
 // Makes a chained register of 8,000 pipes in the memory that it holds.
+// It is like the maker of `visit_bits`, but states another spare and another bound of memory: one
+// generic maker would take both by a trait of its own, and each program still write its impl.
 #[derive(Drop)]
 struct ChainedMaker {
     memory: Vec<u16>,

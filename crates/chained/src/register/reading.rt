@@ -23,6 +23,7 @@ impl ChainedRegister {
         requires { (within self.now.n v.0 ≡ true) × (1 ≤ w) }
         ensures { SeatIn self.now v.0 w result }
     {
+        // Chains are numbers in the memory handed over, so 0 ends one and no reference leads on.
         let cells = self.cells.as_slice();
         let ends = 2 * self.c as usize;
         let mut node = v.0 - 1;

@@ -11,6 +11,7 @@ impl CheckedImage {
     pub fn new(bytes: Vec<u8>) -> Result<CheckedImage, TurnedDown<Vec<u8>>>
         ensures { Making bytes result }
     {
+        // Both arms take the bytes, which two closures could not.
         match check(&bytes) {
             Ok(header) => Ok(CheckedImage { header, bytes }),
             Err(refusal) => Err(TurnedDown {

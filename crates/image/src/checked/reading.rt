@@ -1,12 +1,13 @@
 //! Reading a checked image.
-ghost use Rattle.std.specs.Prelude.{◌≡◌, ◌<◌, ◌≤◌, true};
+ghost use Rattle.std.specs.Prelude.{◌≡◌, ◌<◌, ◌≤◌, true, vec_items};
 ghost use Rattle.plan.specs.Plans.{NextNeighbour, within};
 ghost use Rattle.image.specs.Checked.{image_in, plan_in, LowerNeighbour};
 ghost use Rattle.image.specs.CheckedPlans.{checked_sound};
 
-use crate::chains::next_above;
 use crate::checked::CheckedImage;
+use crate::layout::Layout;
 use plan::{Junction, ReadablePlan};
+use std::cmp::Ordering;
 
 impl CheckedImage {
     /// The number of records.
@@ -16,11 +17,15 @@ impl CheckedImage {
         self.header.records
     }
 
-    /// Whether v is a junction, 1 to n.
-    fn has(&self, v: Junction) -> bool
-        ensures { result ≡ within (image_in self.now).size v.0 }
+    /// The bytes as they are laid out.
+    fn layout(&self) -> Layout<'_>
+        ensures bytes { result.bytes.now ≡ vec_items self.now.bytes }
+        ensures header { result.header ≡ self.now.header }
     {
-        1 <= v.0 && v.0 <= self.header.n
+        Layout {
+            bytes: &self.bytes,
+            header: self.header,
+        }
     }
 
     /// The lowest neighbour of v above w, where w is v or above.
@@ -29,7 +34,7 @@ impl CheckedImage {
         requires upper { v.0 ≤ w.0 }
         ensures { NextNeighbour (plan_in self.now) v.0 w.0 result }
     {
-        next_above(&self.bytes, self.header, v, w)
+        self.layout().next_above(v, w)
     }
 
     /// Whether the chain of v, the lower of the two, has a record with far end w.
@@ -38,10 +43,7 @@ impl CheckedImage {
         requires lower { v.0 < w.0 }
         ensures { result ≡ (plan_in self.now).joins v.0 w.0 }
     {
-        match self.next_upper(v, Junction(w.0 - 1)) {
-            Some(u) => u.0 == w.0,
-            None => false,
-        }
+        self.next_upper(v, Junction(w.0 - 1)) == Some(w)
     }
 
     /// The lowest neighbour of v above w and below v.
@@ -50,12 +52,9 @@ impl CheckedImage {
         requires lower { w.0 < v.0 }
         ensures { LowerNeighbour (plan_in self.now) v.0 w.0 result }
     {
-        for u in w.0 + 1..v.0 {
-            if self.links(Junction(u), v) {
-                return Some(Junction(u));
-            }
-        }
-        None
+        (w.0 + 1..v.0)
+            .find(|u| self.links(Junction(*u), v))
+            .map(Junction)
     }
 }
 
@@ -71,29 +70,24 @@ impl ReadablePlan for CheckedImage {
     }
 
     fn serves(&self, v: Junction) -> bool {
-        self.has(v)
+        v.is_within(self.header.n)
     }
 
     fn joined(&self, v: Junction, w: Junction) -> bool {
-        if v.0 < w.0 {
-            return self.has(v) && self.links(v, w);
+        match v.cmp(&w) {
+            Ordering::Less => v.is_within(self.header.n) && self.links(v, w),
+            Ordering::Greater => w.is_within(self.header.n) && self.links(w, v),
+            Ordering::Equal => false,
         }
-        if w.0 < v.0 {
-            return self.has(w) && self.links(w, v);
-        }
-        false
     }
 
     fn next(&self, v: Junction, w: Junction) -> Option<Junction> {
-        if !self.has(v) {
+        if !v.is_within(self.header.n) {
             return None;
         }
-        if w.0 >= v.0 {
+        if v <= w {
             return self.next_upper(v, w);
         }
-        match self.next_lower(v, w) {
-            Some(u) => Some(u),
-            None => self.next_upper(v, v),
-        }
+        self.next_lower(v, w).or_else(|| self.next_upper(v, v))
     }
 }

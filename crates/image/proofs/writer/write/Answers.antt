@@ -14,6 +14,6 @@ pub returns : goal.returns
 returns g c = (
   write_passes (g.P.ReadablePlan.meaning c.args.plan.now) (length c.args.out.now) (omega (arith, c.pipe_count-records.ensures, c.if-records.false)) (omega (arith, c.pipe_count-records.ensures, c.size-n.ensures.value, c.if-out-long.false)),
   omega (arith, length_written (g.P.ReadablePlan.meaning c.args.plan.now), c.pipe_count-records.ensures, c.size-n.ensures.value),
-  stretches_placed (g.P.ReadablePlan.meaning c.args.plan.now) c.args.out.now c.write_header.new.part c.write_heads.new.part c.write_records.new.part c.size-n.result c.pipe_count-records.result c.size-n.ensures.value c.pipe_count-records.ensures c.write_header.ensures c.write_heads.ensures c.write_records.ensures
+  stretches_placed (g.P.ReadablePlan.meaning c.args.plan.now) c.args.out.now c.put_all.new.part c.write_heads.new.part c.write_records.new.part c.size-n.result c.pipe_count-records.result c.size-n.ensures.value c.pipe_count-records.ensures c.put_all.ensures c.write_heads.ensures c.write_records.ensures
       ((8 + 2 * c.size-n.result) - 8) (((8 + 2 * c.size-n.result) + 6 * c.pipe_count-records.result) - (8 + 2 * c.size-n.result)) ((8 + 2 * c.size-n.result) + 6 * c.pipe_count-records.result) (omega arith) (omega arith) refl,
 )

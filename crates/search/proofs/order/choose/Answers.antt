@@ -4,10 +4,6 @@ use Rattle.search.proofs.Ranks.{better, no_better}
 use Rattle.search.proofs.order.choose.Goals as goal
 use Rattle.search.proofs.order.choose.Goals.{then-is_before, else-is_before}
 
-pub is_before-requires : goal.is_before-requires
-is_before-requires g c =
-    record { left = c.requires.each c.loop-i.i (omega arith); right = c.requires.each c.loop-i.best (omega arith) }
-
 pub loop-i-preserved : goal.loop-i-preserved
 loop-i-preserved g c =
     let k = c.args.kind.now in

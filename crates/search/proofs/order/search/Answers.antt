@@ -1,19 +1,10 @@
-use Rattle.std.proofs.Common.{◌≡◌, ℕ, suc, ◌-◌, ◌*◌, ◌≤◌, length, refl, subst, arith, rules}
+use Rattle.std.proofs.Common.{◌≡◌, ℕ, suc, ◌-◌, ◌*◌, ◌≤◌, length, subst, arith, rules}
 use Rattle.plan.specs.Plans.{Plan}
 use Rattle.plan.specs.Memory.{KeptFrom}
 use Rattle.search.proofs.Filling.{kept_trans}
-use Rattle.search.proofs.Going.{Going, going_start, going_end}
+use Rattle.search.proofs.Going.{Going, going_end}
 use Rattle.search.proofs.Stepping.{turn}
 use Rattle.search.proofs.order.search.Goals as goal
-
-pub loop-p-init : goal.loop-p-init
-loop-p-init g c =
-    let room : c.size-n.result ≤ length c.start.new.places = omega arith in (
-      going_start (g.K.Kind.blank c.args.kind.now) (g.K.Kind.raised c.args.kind.now) (g.K.Kind.compared c.args.kind.now) (g.P.ReadablePlan.meaning c.args.plan.now) c.start.new.places c.start.new.labels c.start.new.scratch c.size-n.result c.size-n.ensures.value room c.start.ensures.numbered c.start.ensures.placed c.start.ensures.labelled,
-      (λ k d h. refl),
-      (λ k d h. refl),
-      (λ k d h. refl),
-    )
 
 pub loop-p-preserved : goal.loop-p-preserved
 loop-p-preserved g c =

@@ -1,5 +1,5 @@
 use Rattle.std.proofs.Common.{sym, arith}
-use Rattle.set.proofs.Clears.{clear_goes_on, clear_all, clear-unserved, next-clear-joined, next-none}
+use Rattle.set.proofs.Clears.{clear_all, clear-unserved, next-clear-joined}
 use Rattle.set.proofs.load.is_clear.Goals as goal
 use Rattle.set.proofs.load.is_clear.Goals.{then-not-serves-via-then-not-serves, then-not-serves-via-else-not-serves+then-is_some}
 
@@ -9,10 +9,6 @@ returns-then-not-serves g c =
       | then-not-serves-via-then-not-serves w ↦ sym (clear-unserved (g.P.ReadablePlan.meaning c.args.plan.now) c.loop-v.v c.loop-v.auto.v (omega (arith, c.size-v-end.ensures.value, c.loop-v-test.true)) (sym w.if-not-serves.ensures))
       | then-not-serves-via-else-not-serves+then-is_some w ↦ sym (next-clear-joined (g.P.ReadablePlan.meaning c.args.plan.now) (g.met.P.ReadablePlan.sound c.args.plan.now) c.loop-v.v w.next.result (sym w.if-is_some.ensures) w.next.ensures)
     ]
-
-pub loop-v-preserved : goal.loop-v-preserved
-loop-v-preserved g c =
-    clear_goes_on (g.P.ReadablePlan.meaning c.args.plan.now) c.loop-v.v c.loop-v.invariant (sym c.if-not-serves.ensures) (next-none (g.P.ReadablePlan.meaning c.args.plan.now) c.loop-v.v c.next.result (sym c.if-is_some.ensures) c.next.ensures)
 
 pub returns : goal.returns
 returns g c = sym (clear_all (g.P.ReadablePlan.meaning c.args.plan.now) c.loop-v.v (omega (arith, c.size-v-end.ensures.value, c.loop-v-test.false)) c.loop-v.invariant)
