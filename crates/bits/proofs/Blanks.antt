@@ -9,7 +9,7 @@ use Rattle.plan.proofs.Counts.{pairs-none}
 use Rattle.plan.proofs.Memory.{items_refilled}
 use Rattle.bits.specs.Making.{new_verdict}
 use Rattle.bits.specs.Rows.{joined}
-use Rattle.bits.proofs.Cells.{joined-blank}
+use Rattle.bits.proofs.Marks.{joined-blank}
 
 -- n * n - n is even
 triangle : (n : ℕ) → (k : ℕ) × (2 * k + n ≡ n * n)
@@ -36,7 +36,7 @@ module _ (memory : Vec ℕ Global) (lent last : List ℕ) (n : ℕ) (Lent-is : l
   items_are = items_refilled memory lent last Lent-is long
 
   pub lent_blank : n ≤ 512 → ((k : ℕ) → k < 8 * n → get_or last k 0 ≡ 0) → (a b : ℕ) → joined n (vec_items (with_items memory last)) a b ≡ false
-  lent_blank few cleared a b = ap (λ ws. joined n ws a b) items_are ∙ joined-blank n last few cleared a b
+  lent_blank few cleared a b = ap (λ ws. joined n ws a b) items_are ∙ joined-blank n few last cleared a b
 
   pub lent_behind : ((k : ℕ) → 8 * n ≤ k → get_or last k 0 ≡ get_or lent k 0) → (k : ℕ) → 8 * n ≤ k → get_or (vec_items (with_items memory last)) k 0 ≡ get_or (vec_items memory) k 0
   lent_behind behind k l = ap (λ ws. get_or ws k 0) items_are ∙ (behind k l ∙ ap (λ ws. get_or ws k 0) Lent-is)

@@ -1,4 +1,4 @@
 pub mod Blanks
-pub mod Cells
+pub mod Marks
 pub mod Neighbours
 pub mod Steps

@@ -3,7 +3,6 @@
 #![tactic(auto)]
 
 mod register;
-mod rows;
 #[cfg(test)]
 mod tests;
 

@@ -5,24 +5,23 @@
 #[cfg(test)]
 mod tests;
 
-ghost use Rattle.std.specs.Prelude.{◌≡◌};
+ghost use Rattle.std.specs.Prelude.{◌≡◌, ◌==◌, not, position};
 ghost use Rattle.bitset.specs.Bits.{holds, Inserted, Removed, NextHeld};
-
-/// As many words as hold every `usize`: bits of later words stand for no number.
-const WORDS: usize = 1 << 58;
 
 /// Whether i is in the set; false for a number past the end of the words.
 pub fn contains(words: &[u64], i: usize) -> bool
     ensures { result ≡ holds words.now i }
 {
-    let word = i / 64;
-    word < words.len() && (words[word] >> (i % 64)) & 1 == 1
+    words
+        .get(i / 64)
+        .is_some_and(|word| (word >> (i % 64)) & 1 == 1)
 }
 
 /// Puts i into the set; a number past the end of the words changes nothing.
 pub fn insert(words: &mut [u64], i: usize)
     ensures { Inserted words.old i words.new }
 {
+    // By index: of what is written through `get_mut` no proof learns anything.
     let word = i / 64;
     if word < words.len() {
         words[word] |= 1 << (i % 64);
@@ -39,22 +38,25 @@ pub fn remove(words: &mut [u64], i: usize)
     }
 }
 
+// The index of the first word that is not 0.
+fn first_filled(words: &[u64]) -> Option<usize>
+    ensures { result ≡ position (λ word. not (word == 0)) words.now }
+{
+    words.iter().position(|word| *word != 0)
+}
+
 /// The least number from `from` on that is in the set; `None` where there is none.
 pub fn next(words: &[u64], from: usize) -> Option<usize>
     ensures { NextHeld words.now from result }
 {
     let first = from / 64;
-    if first >= words.len() {
-        return None;
-    }
-    let head = words[first] >> (from % 64);
+    let head = words.get(first)? >> (from % 64);
     if head != 0 {
         return Some(from + head.trailing_zeros() as usize);
     }
-    for k in first + 1..words.len().min(WORDS) {
-        if words[k] != 0 {
-            return Some(64 * k + words[k].trailing_zeros() as usize);
-        }
-    }
-    None
+    let later = first + 1;
+    let k = later + first_filled(&words[later..])?;
+    // Bits of words past 2^58 stand for no number that a `usize` holds.
+    let start = k.checked_mul(64)?;
+    Some(start + words[k].trailing_zeros() as usize)
 }

@@ -1,20 +1,33 @@
 -- The rows and the count while an order is eliminated.
-use Rattle.std.proofs.Common.{◌≡◌, ℕ, ◌+◌, ◌-◌, ◌*◌, ◌/◌, ◌%◌, ◌<◌, ◌≤◌, true, false, ◌⊎◌, List, length, get_or, sym, refl, ◌∙◌, inl, inr, add-one, arith}
-use Rattle.std.proofs.lemmas.Bool.{cases_Bool, le-ltb}
-use Rattle.bitset.specs.Bits.{bit, holds}
-use Rattle.bitset.proofs.BitLaws.{bit_of_zero}
+use Rattle.std.proofs.Common.{◌≡◌, ℕ, ◌+◌, ◌-◌, ◌*◌, ◌/◌, ◌%◌, ◌<◌, ◌≤◌, true, false, ◌⊎◌, List, length, get_or, MatchOption, Some, Option, sym, refl, ◌∙◌, inl, inr, add-one, arith}
+use Rattle.std.proofs.lemmas.Bool.{cases_lt, le-ltb}
+use Rattle.bitset.specs.Bits.{bit}
 use Rattle.plan.specs.Plans.{Plan, Sound, pairs}
 use Rattle.plan.specs.Orders.{ordered}
 use Rattle.plan.specs.Refusals.Verdict.{carried}
 use Rattle.plan.proofs.Counts.{pairs_same, pairs-none}
-use Rattle.plan.proofs.Orders.{IsOrder, place_at}
+use Rattle.plan.proofs.Orders.{IsOrder, order_of, place_at}
+use Rattle.pairs.specs.Rows.{marked}
+use Rattle.pairs.proofs.Marked.{marked-bit, marked_blank}
+use Rattle.elimination.specs.declared.order.PlaceTable.{PlaceTable}
 use Rattle.elimination.specs.Elimination.{fill}
 use Rattle.elimination.specs.Rows.{Fills, fill_verdict}
-use Rattle.elimination.specs.Steps.{marked, found, Places, Table, Eliminates, at}
+use Rattle.elimination.specs.Steps.{found, Places, Table, Eliminates, at}
 use Rattle.elimination.proofs.Laws.{plan_simple}
-use Rattle.elimination.proofs.Marked.{marked-holds, word_of_number, bit_of_number}
-use Rattle.elimination.proofs.Neighbours.{found-marked, found_parts}
+use Rattle.elimination.proofs.Neighbours.{found-marked, found-outside}
 use Rattle.elimination.proofs.Takeover.{Working, working_none, working_more, working_all}
+
+-- the list is an order of n junctions, with its places in the table
+pub record Placed (n : ℕ) (us : List ℕ) (table : PlaceTable) : Type 0 where
+  pub ordered : ordered n us ≡ true
+  pub order : IsOrder n us
+  pub places : Places n us table.places
+
+pub placed : {m n : ℕ} {us : List ℕ} {found : Option PlaceTable} {table : PlaceTable} → m ≡ n → found ≡ Some table → MatchOption found (ordered m us ≡ false) (λ t. (ordered m us ≡ true) × Places m us t.places) → Placed n us table
+placed {m} {n} {us} e f h =
+    let p = rw f at h in
+    let ok : ordered n us ≡ true = rw e at p.0 in
+    record { ordered = ok; order = order_of n us ok; places = rw e at p.1 }
 
 -- the first t junctions of the list are eliminated
 pub record Filling (q : Plan) (us : List ℕ) (before : List ℕ) (t : ℕ) (rows : List ℕ) (count : ℕ) : Type 0 where
@@ -22,22 +35,12 @@ pub record Filling (q : Plan) (us : List ℕ) (before : List ℕ) (t : ℕ) (row
   pub counted : count ≡ pairs (found q.size rows) q.size
   pub behind : (k : ℕ) → 8 * q.size ≤ k → get_or rows k 0 ≡ get_or before k 0
 
-marked-bit : (rows : List ℕ) (v i : ℕ) → 1 ≤ v → i < 512 → marked rows v (i + 1) ≡ bit (get_or rows (8 * (v - 1) + i / 64) 0) (i % 64)
-unfolding holds
-marked-bit rows v i a b =
-    rw (marked-holds rows v (i + 1) a (omega arith) (omega arith), word_of_number v i a b, bit_of_number v i a b) refl
-
 found-clear : (n : ℕ) (rows : List ℕ) → ((k : ℕ) → k < 8 * n → get_or rows k 0 ≡ 0) → (v w : ℕ) → found n rows v w ≡ false
-found-clear n rows clear v w = go (cases_Bool (found n rows v w))
+found-clear n rows clear v w = go (cases_lt n v)
   where
-    go : (found n rows v w ≡ true) ⊎ (found n rows v w ≡ false) → found n rows v w ≡ false
-    go (inr f) = f
-    go (inl t) =
-        let p : (1 ≤ v) × (v ≤ n) × (1 ≤ w) × (w ≤ 512) = found_parts n rows v w t in
-        let e : (w - 1) + 1 ≡ w = omega arith in
-        let b : marked rows v w ≡ bit (get_or rows (8 * (v - 1) + (w - 1) / 64) 0) ((w - 1) % 64) = rw e at (marked-bit rows v (w - 1) p.0 (omega arith)) in
-        let z : get_or rows (8 * (v - 1) + (w - 1) / 64) 0 ≡ 0 = clear (8 * (v - 1) + (w - 1) / 64) (omega arith) in
-        found-marked n rows v w p.1 ∙ b ∙ rw z (bit_of_zero ((w - 1) % 64))
+    go : (n < v) ⊎ (v ≤ n) → found n rows v w ≡ false
+    go (inl l) = found-outside n rows v w l
+    go (inr l) = found-marked n rows v w l ∙ marked_blank rows n clear v w l
 
 module _ (q : Plan) (s : Sound q) (us : List ℕ) (o : IsOrder q.size us) where
   ends : (v w : ℕ) → q.joins v w ≡ true → (1 ≤ v) × (v ≤ q.size) × (1 ≤ w) × (w ≤ q.size)

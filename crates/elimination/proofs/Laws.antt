@@ -1,6 +1,6 @@
 -- The law of no fill and the path law.
 use Rattle.std.proofs.Common.{◌≡◌, ℕ, zero, suc, ◌<◌, ◌≤◌, min, Bool, true, false, ◌⊎◌, List, sym, refl, ap, ◌∙◌, inl, inr, arith}
-use Rattle.std.proofs.lemmas.Bool.{cases_eq, cases_lt, cases_Bool, both_ways}
+use Rattle.std.proofs.lemmas.Bool.{cases_eq, cases_lt, cases_Bool, both_ways, false_from_ne_true}
 use Rattle.plan.specs.Plans.{Plan, Sound, pairs}
 use Rattle.plan.specs.Orders.{place}
 use Rattle.plan.proofs.Counts.{pairs-none}
@@ -24,21 +24,17 @@ module _ (g : ℕ → ℕ → Bool) (us : List ℕ) (s : Simple g) where
       go (inr f) = absurd (both_ways (fill g us a b) (none a b) f)
 
   pub no_fill_from_perfect : Perfect g us → (v w : ℕ) → fill g us v w ≡ false
-  no_fill_from_perfect perfect v w = go (cases_Bool (fill g us v w))
-    where
-      go : (fill g us v w ≡ true) ⊎ (fill g us v w ≡ false) → fill g us v w ≡ false
-      go (inr f) = f
-      go (inl t) =
-          absurd
-          (both_ways (g v w) (fill_no_pipe g us s v w t)
-          (filled_least g us s (λ x y. g x y ≡ true) (λ x y h. h) perfect v w (filled_fill g s us v w t)))
+  no_fill_from_perfect perfect v w =
+      false_from_ne_true (fill g us v w)
+      (λ t. both_ways (g v w) (fill_no_pipe g us s v w t)
+      (filled_least g us s (λ x y. g x y ≡ true) (λ x y h. h) perfect v w (filled_fill g s us v w t)))
 
 -- fill pairs are pairs of junctions
 pub fill_inside : (q : Plan) → Sound q → (us : List ℕ) (v w : ℕ) → fill q.joins us v w ≡ true → (1 ≤ v) × (v ≤ q.size)
 fill_inside q s us v w h = go (cases_Bool (q.serves v))
   where
     unjoined : q.serves v ≡ false → (x : ℕ) → q.joins v x ≡ false
-    unjoined f x = elim (cases_Bool (q.joins v x)) [ inl t ↦ absurd (both_ways (q.serves v) f (s.ends v x t).0) | inr e ↦ e ]
+    unjoined f x = false_from_ne_true (q.joins v x) (λ t. both_ways (q.serves v) f (s.ends v x t).0)
 
     go : (q.serves v ≡ true) ⊎ (q.serves v ≡ false) → (1 ≤ v) × (v ≤ q.size)
     go (inl t) = s.inside v t

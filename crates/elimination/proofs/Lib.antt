@@ -2,7 +2,6 @@ pub mod Counting
 pub mod Filled
 pub mod Filling
 pub mod Laws
-pub mod Marked
 pub mod Neighbours
 pub mod Parents
 pub mod Placing

@@ -1,16 +1,23 @@
 -- The neighbours of a junction by pipes and by marks, in the order of their numbers, and the earliest placed of them.
-use Rattle.std.proofs.Common.{◌≡◌, ℕ, ◌<◌, ◌≤◌, min, Bool, true, false, ◌&&◌, ◌||◌, leb, ◌⊎◌, List, IfSome, Some, None, Option, sym, refl, ◌∙◌, inl, inr, arith}
-use Rattle.std.proofs.lemmas.Bool.{cases_lt, or_cases, or_left, or_right, or_from}
+use Rattle.std.proofs.Common.{◌≡◌, ℕ, ◌*◌, ◌<◌, ◌≤◌, Bool, true, false, ◌&&◌, ◌||◌, leb, ◌⊎◌, List, length, MatchBool, Some, None, Option, sym, refl, ◌∙◌, inl, inr, rules, arith}
+use Rattle.std.specs.Ordering.{nat_cmp, is_lt, ord_min}
+use Rattle.std.proofs.lemmas.Bool.{cases_Bool, or_cases, or_left, or_right, or_from}
 use Rattle.std.proofs.lemmas.Bool.Decides.{nat_tests}
 use Rattle.plan.specs.Plans.{Plan, Sound}
 use Rattle.plan.specs.Registers.{same_pair}
 use Rattle.plan.specs.declared.number.Junction.{Junction}
-use Rattle.elimination.specs.Steps.{marked, found, known, Marks, Joins, NextIn}
-use Rattle.elimination.proofs.Marked.{marked_parts}
+use Rattle.elimination.specs.Steps.{found, known, Joins}
+use Rattle.pairs.specs.Rows.{has_row, marked, Marks, NextIn}
+use Rattle.pairs.proofs.Marked.{marked_parts}
+use Rattle.pairs.proofs.Marking.{has_row_from}
 
 pub found-marked : (n : ℕ) (rows : List ℕ) (v w : ℕ) → v ≤ n → found n rows v w ≡ marked rows v w
 unfolding found
 found-marked n rows v w h = grind (arith, nat_tests)
+
+pub found-outside : (n : ℕ) (rows : List ℕ) (v w : ℕ) → n < v → found n rows v w ≡ false
+unfolding found
+found-outside n rows v w h = grind (arith, nat_tests)
 
 pub found_parts : (n : ℕ) (rows : List ℕ) (v w : ℕ) → found n rows v w ≡ true → (1 ≤ v) × (v ≤ n) × (1 ≤ w) × (w ≤ 512)
 unfolding found
@@ -37,12 +44,12 @@ module _ (t s k : ℕ → Bool) (is : (x : ℕ) → k x ≡ (t x || s x)) (w : �
   next_right a h none =
       (h.0, is a.0 ∙ or_right (t a.0) (s a.0) h.1, λ x l m. is x ∙ or_from (t x) (s x) (none x l m) (h.2 x l m))
 
-  pub next_lower_lem : (a b : Junction) → NextIn t w (Some a) → NextIn s w (Some b) → NextIn k w (Some (record { 0 = min a.0 b.0 }))
-  next_lower_lem a b h i = go (cases_lt a.0 b.0)
+  pub next_lower_lem : (a b : Junction) → NextIn t w (Some a) → NextIn s w (Some b) → NextIn k w (Some (ord_min (λ x y. nat_cmp x.0 y.0) a b))
+  next_lower_lem a b h i = go (cases_Bool (is_lt (nat_cmp b.0 a.0)))
     where
-      go : (a.0 < b.0) ⊎ (b.0 ≤ a.0) → NextIn k w (Some (record { 0 = min a.0 b.0 }))
-      go (inl l) = let e : min a.0 b.0 ≡ a.0 = omega arith in rw e (next_left a h (λ x m n. i.2 x m (omega arith)))
-      go (inr l) = let e : min a.0 b.0 ≡ b.0 = omega arith in rw e (next_right b i (λ x m n. h.2 x m (omega arith)))
+      go : (is_lt (nat_cmp b.0 a.0) ≡ true) ⊎ (is_lt (nat_cmp b.0 a.0) ≡ false) → NextIn k w (Some (ord_min (λ x y. nat_cmp x.0 y.0) a b))
+      go (inl e) = let l : b.0 < a.0 = search rules in rw e (next_right b i (λ x m n. h.2 x m (omega arith)))
+      go (inr e) = let l : a.0 ≤ b.0 = search rules in rw e (next_left a h (λ x m n. i.2 x m (omega arith)))
 
   pub next_rest : (r : Option Junction) → NextIn t w None → NextIn s w r → NextIn k w r
   next_rest None h i = λ u l. is u ∙ or_from (t u) (s u) (h u l) (i u l)
@@ -72,8 +79,11 @@ module _ (q : Plan) (before after : List ℕ) (p u : ℕ) (p_in : p ≤ q.size) 
       rw (m.pairs a b)
       (found-both (leb a q.size) (marked before a b) (same_pair p u a b) (λ e. grind (arith, nat_tests)))
 
-  pub joins_marked : known q before p u ≡ false → Marks before p u after → Joins q p u before true after
-  joins_marked h m =
+  pub joins_marked : q.size ≤ 512 → 8 * q.size ≤ length before → known q before p u ≡ false → MatchBool (has_row before p && has_row before u) (Marks before p u after) (after ≡ before) → Joins q p u before true after
+  joins_marked few room h marked =
+      let i : has_row before p ≡ true = has_row_from before p 1≤p (omega arith) (omega arith) in
+      let j : has_row before u ≡ true = has_row_from before u 1≤u (omega arith) (omega arith) in
+      let m : Marks before p u after = rw (i, j) at marked in
       record {
         says = rw h refl;
         marks = found_marks m;
@@ -82,10 +92,6 @@ module _ (q : Plan) (before after : List ℕ) (p u : ℕ) (p_in : p ≤ q.size) 
 
 pub earliest_none : (q : Plan) → Sound q → (rows : List ℕ) (at : ℕ → ℕ) (v : ℕ) → EarliestTo (known q rows) at v 0 None
 earliest_none q s rows at v u l h = absurd (omega (arith, (known_inside q s rows v u h).0))
-
-pub earliest_inside : (q : Plan) → Sound q → (rows : List ℕ) (at : ℕ → ℕ) (v k : ℕ) (r : Option Junction) → EarliestTo (known q rows) at v k r → IfSome r (λ p. (1 ≤ p.0) × (p.0 ≤ 512))
-earliest_inside q s rows at v k None h = tt
-earliest_inside q s rows at v k (Some p) h = known_inside q s rows v p.0 h.0
 
 pub known_by_pipe : (q : Plan) (rows : List ℕ) (v w : ℕ) → q.joins v w ≡ true → known q rows v w ≡ true
 known_by_pipe q rows v w h = or_left (q.joins v w) (found q.size rows v w) h

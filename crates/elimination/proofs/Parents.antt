@@ -1,13 +1,13 @@
 -- The earliest later neighbour takes over the others, one after the other in the order of their numbers.
 use Rattle.std.proofs.Common.{◌≡◌, ℕ, ◌+◌, ◌*◌, ◌<◌, ◌≤◌, Bool, true, false, ◌&&◌, ◌||◌, eqb, leb, ◌⊎◌, List, get_or, Some, None, sym, refl, ap, ◌∙◌, inl, inr, arith}
-use Rattle.std.proofs.lemmas.Bool.{cases_eq, cases_lt, cases_Bool, or_cases, or_parts, and_right, not-true, not-false, both_ways, eq-eqb, ne_eqb, le-leb, lt-leb}
-use Rattle.std.proofs.lemmas.Bool.Decides.{nat_tests}
+use Rattle.std.proofs.lemmas.Bool.{cases_eq, cases_lt, or_cases, or_parts, and_right, not-true, not-false, both_ways, false_from_ne_true, and_parts, leb-true, eq-eqb, ne_eqb, le-leb, lt-leb}
 use Rattle.plan.specs.Plans.{Plan, Sound, pairs}
 use Rattle.plan.specs.Registers.{same_pair}
 use Rattle.plan.specs.declared.number.Junction.{Junction}
 use Rattle.plan.proofs.Counts.{pairs_same}
 use Rattle.plan.proofs.Pipes.{pairs_added}
-use Rattle.elimination.specs.Steps.{found, known, Joins, Table, NextIn, takes, taken, TakesOver, Eliminates}
+use Rattle.pairs.specs.Rows.{NextIn}
+use Rattle.elimination.specs.Steps.{found, known, Joins, Table, takes, taken, TakesOver, Eliminates}
 use Rattle.elimination.proofs.Neighbours.{found_parts, known_inside}
 use Rattle.elimination.proofs.Takeover.{takes_parts, takes_from, taken_cases}
 
@@ -35,7 +35,7 @@ module _ (h : ℕ → ℕ → Bool) (at : ℕ → ℕ) (v p : ℕ) where
   takes_to_more k u l none x = go (cases_eq x u) (cases_lt k x) (cases_lt u x)
     where
       between : k < x → x < u → takes h at v p x ≡ false
-      between i j = elim (cases_Bool (takes h at v p x)) [ inl t ↦ absurd (both_ways (h v x) (none x i j) (takes_parts h at v p x t).0) | inr f ↦ f ]
+      between i j = false_from_ne_true (takes h at v p x) (λ t. both_ways (h v x) (none x i j) (takes_parts h at v p x t).0)
 
       go : (x ≡ u) ⊎ (x ≡ u → ⊥) → (k < x) ⊎ (x ≤ k) → (u < x) ⊎ (x ≤ u) → (leb x u && takes h at v p x) ≡ ((eqb x u && takes h at v p u) || (leb x k && takes h at v p x))
       go (inl e) (inl i) j = rw (eq-eqb x u e, le-leb x u (omega arith), lt-leb x k i, e) (grind arith)
@@ -60,10 +60,9 @@ module _ (h : ℕ → ℕ → Bool) (at : ℕ → ℕ) (v p : ℕ) where
   taken_to_none some a b = rw (none a, none b) (grind arith)
     where
       none : (x : ℕ) → (leb x 0 && takes h at v p x) ≡ false
-      none x = elim (cases_Bool (leb x 0 && takes h at v p x)) [
-        | inl t ↦ (let r : (leb x 0 ≡ true) × (takes h at v p x ≡ true) = grind arith in let i : x ≤ 0 = grind (arith, nat_tests) in absurd (omega (arith, some x (takes_parts h at v p x r.1).0)))
-        | inr f ↦ f
-      ]
+      none x =
+          false_from_ne_true (leb x 0 && takes h at v p x)
+          (λ t. let r : (leb x 0 ≡ true) × (takes h at v p x ≡ true) = and_parts (leb x 0) (takes h at v p x) t in omega (arith, leb-true x 0 r.0, some x (takes_parts h at v p x r.1).0))
 
   -- no neighbour is above k
   pub taken_to_all : (k : ℕ) → ((x : ℕ) → k < x → h v x ≡ false) → (a b : ℕ) → taken_to h at v p k a b ≡ taken h at v p a b
@@ -74,7 +73,7 @@ module _ (h : ℕ → ℕ → Bool) (at : ℕ → ℕ) (v p : ℕ) where
       all x = go (cases_lt k x)
         where
           above : k < x → takes h at v p x ≡ false
-          above i = elim (cases_Bool (takes h at v p x)) [ inl t ↦ absurd (both_ways (h v x) (none x i) (takes_parts h at v p x t).0) | inr f ↦ f ]
+          above i = false_from_ne_true (takes h at v p x) (λ t. both_ways (h v x) (none x i) (takes_parts h at v p x t).0)
 
           go : (k < x) ⊎ (x ≤ k) → (leb x k && takes h at v p x) ≡ takes h at v p x
           go (inl i) = rw (above i) (and_right (leb x k) false refl)
@@ -84,7 +83,7 @@ module _ (h : ℕ → ℕ → Bool) (at : ℕ → ℕ) (v p : ℕ) where
   pub taken_to_own : (v ≡ p → ⊥) → (k x : ℕ) → taken_to h at v p k v x ≡ false
   unfolding taken_to takes_to
   taken_to_own ne k x =
-      let o : takes h at v p v ≡ false = elim (cases_Bool (takes h at v p v)) [ inl t ↦ absurd (omega (arith, (takes_parts h at v p v t).1)) | inr f ↦ f ] in
+      let o : takes h at v p v ≡ false = false_from_ne_true (takes h at v p v) (λ t. omega (arith, (takes_parts h at v p v t).1)) in
       rw (ne_eqb v p ne, o) (grind arith)
 
   -- p and a junction above k are not taken yet
@@ -140,10 +139,10 @@ module _ {q : Plan} {at : ℕ → ℕ} {v p : ℕ} {before : List ℕ} (s : Soun
           }
 
       pub taking_early : at u.0 ≤ at v → Taking q at v p before u.0 rows added
-      taking_early h = taking_skip (elim (cases_Bool (takes (known q before) at v p u.0)) [ inl e ↦ absurd (omega (arith, (takes_parts (known q before) at v p u.0 e).1)) | inr f ↦ f ])
+      taking_early h = taking_skip (false_from_ne_true (takes (known q before) at v p u.0) (λ e. omega (arith, h, (takes_parts (known q before) at v p u.0 e).1)))
 
       pub taking_same : u.0 ≡ p → Taking q at v p before u.0 rows added
-      taking_same h = taking_skip (elim (cases_Bool (takes (known q before) at v p u.0)) [ inl e ↦ absurd ((takes_parts (known q before) at v p u.0 e).2 h) | inr f ↦ f ])
+      taking_same h = taking_skip (false_from_ne_true (takes (known q before) at v p u.0) (λ e. (takes_parts (known q before) at v p u.0 e).2 h))
 
       module _ (1≤p : 1 ≤ p) (p≤n : p ≤ q.size) (late : at v < at u.0) (ne : u.0 ≡ p → ⊥) where
         -- p and u are joined in the rows so far exactly where they were before
@@ -165,7 +164,7 @@ module _ {q : Plan} {at : ℕ → ℕ} {v p : ℕ} {before : List ℕ} (s : Soun
             joined = not-false (known q rows p u.0) (sym j.says)
 
             old : Taking q at v p before u.0 rows added
-            old = taking_skip (elim (cases_Bool (takes (known q before) at v p u.0)) [ inl e ↦ absurd (both_ways (known q before p u.0) (takes_parts (known q before) at v p u.0 e).3 (sym known_same ∙ joined)) | inr f ↦ f ])
+            old = taking_skip (false_from_ne_true (takes (known q before) at v p u.0) (λ e. both_ways (known q before p u.0) (takes_parts (known q before) at v p u.0 e).3 (sym known_same ∙ joined)))
 
         taken_over : known q rows p u.0 ≡ false → takes (known q before) at v p u.0 ≡ true
         taken_over h =
@@ -210,13 +209,9 @@ eliminates_none q rows at v none =
     }
   where
     nothing : (a b : ℕ) → taken (known q rows) at v 0 a b ≡ false
-    nothing a b = elim (cases_Bool (taken (known q rows) at v 0 a b)) [
-      | inl e ↦ elim (taken_cases (known q rows) at v 0 a b e) [
-        | inl r ↦ absurd (late b r.1)
-        | inr r ↦ absurd (late a r.1)
-      ]
-      | inr f ↦ f
-    ]
+    nothing a b =
+        false_from_ne_true (taken (known q rows) at v 0 a b)
+        (λ e. elim (taken_cases (known q rows) at v 0 a b e) [ inl r ↦ late b r.1 | inr r ↦ late a r.1 ])
       where
         late : (u : ℕ) → takes (known q rows) at v 0 u ≡ true → ⊥
         late u e = let w : (known q rows v u ≡ true) × (at v < at u) × (u ≡ 0 → ⊥) × (known q rows 0 u ≡ false) = takes_parts (known q rows) at v 0 u e in omega (arith, w.1, none u w.0)

@@ -1,7 +1,8 @@
 -- Writing the places of a list of junctions into a table, one entry after the other.
-use Rattle.std.proofs.Common.{◌≡◌, ℕ, suc, ◌+◌, ◌-◌, ◌<◌, ◌≤◌, true, false, ◌⊎◌, List, length, get_or, set, replicate, sym, ap, ◌∙◌, inl, inr, arith}
+use Rattle.std.proofs.Common.{◌≡◌, ℕ, suc, ◌+◌, ◌-◌, ◌<◌, ◌≤◌, true, false, ◌⊎◌, List, length, get_or, set, replicate, sym, refl, ap, ◌∙◌, inl, inr, arith}
 use Rattle.std.proofs.lemmas.List.{length-set, length-replicate, get_or-replicate, get_or_past, get_or-set_same, get_or-set_other}
-use Rattle.std.proofs.lemmas.Bool.{cases_eq, cases_lt, cases_Bool}
+use Rattle.std.proofs.lemmas.Bool.{cases_eq, cases_lt, both_ways, false_from_ne_true, le-leb}
+use Rattle.plan.specs.Plans.{within}
 use Rattle.plan.specs.Orders.{ordered, place}
 use Rattle.plan.proofs.Orders.{IsOrder, order_of, ordered_from_each, place_at}
 use Rattle.elimination.specs.Steps.{Places}
@@ -63,14 +64,13 @@ module _ (n : ℕ) (us : List ℕ) (i : ℕ) (places : List ℕ) (l : Located n 
 
   -- an entry that has a place already
   pub not_ordered_twice : i < n → 1 ≤ get_or us i 0 → (get_or places (get_or us i 0 - 1) 0 ≡ 0 → ⊥) → ordered n us ≡ false
-  not_ordered_twice h a taken = go (cases_Bool (ordered n us))
+  not_ordered_twice h a taken = false_from_ne_true (ordered n us) twice
     where
-      go : (ordered n us ≡ true) ⊎ (ordered n us ≡ false) → ordered n us ≡ false
-      go (inr f) = f
-      go (inl t) =
+      twice : ordered n us ≡ true → ⊥
+      twice t =
           let old : (get_or places (get_or us i 0 - 1) 0 ≤ i) × (get_or us (get_or places (get_or us i 0 - 1) 0 - 1) 0 ≡ suc (get_or us i 0 - 1)) = l.back (get_or us i 0 - 1) taken in
           let same : suc (get_or us i 0 - 1) ≡ get_or us i 0 = omega arith in
-          absurd ((order_of n us t).once (get_or places (get_or us i 0 - 1) 0 - 1) i (omega (arith, old.0)) h (old.1 ∙ same))
+          (order_of n us t).once (get_or places (get_or us i 0 - 1) 0 - 1) i (omega (arith, old.0)) h (old.1 ∙ same)
 
   pub ordered_all : i ≡ n → length us ≡ n → ordered n us ≡ true
   ordered_all e long =
@@ -84,16 +84,10 @@ module _ (n : ℕ) (us : List ℕ) (i : ℕ) (places : List ℕ) (l : Located n 
       let r : (j : ℕ) × (j < n) × (get_or us j 0 ≡ v) = o.all v a b in
       ap (λ x. get_or places (x - 1) 0) (sym r.2) ∙ (l.seen r.0 (omega (arith, r.1))).2 ∙ sym (place_at n us o r.0 r.1) ∙ ap (place us) r.2
 
-pub not-ordered-outside : (n : ℕ) (us : List ℕ) (i : ℕ) → i < n → ((1 ≤ get_or us i 0) × (get_or us i 0 ≤ n) → ⊥) → ordered n us ≡ false
-not-ordered-outside n us i h out = go (cases_Bool (ordered n us))
+pub not-ordered-outside : (n : ℕ) (us : List ℕ) (i : ℕ) → i < n → within n (get_or us i 0) ≡ false → ordered n us ≡ false
+not-ordered-outside n us i h out = false_from_ne_true (ordered n us) inside
   where
-    go : (ordered n us ≡ true) ⊎ (ordered n us ≡ false) → ordered n us ≡ false
-    go (inr f) = f
-    go (inl t) = absurd (out ((order_of n us t).each i h))
-
-pub not-ordered-length : (n : ℕ) (us : List ℕ) → (length us ≡ n → ⊥) → ordered n us ≡ false
-not-ordered-length n us ne = go (cases_Bool (ordered n us))
-  where
-    go : (ordered n us ≡ true) ⊎ (ordered n us ≡ false) → ordered n us ≡ false
-    go (inr f) = f
-    go (inl t) = absurd (ne (order_of n us t).long)
+    inside : ordered n us ≡ true → ⊥
+    inside t =
+        let e : (1 ≤ get_or us i 0) × (get_or us i 0 ≤ n) = (order_of n us t).each i h in
+        both_ways (within n (get_or us i 0)) out (rw (le-leb 1 (get_or us i 0) e.0, le-leb (get_or us i 0) n e.1) refl)

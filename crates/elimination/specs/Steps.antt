@@ -1,24 +1,10 @@
--- The steps of the elimination: pairs marked in rows, and junctions whose parents take over from them.
-use Rattle.std.specs.Prelude.{◌≡◌, ℕ, ◌+◌, ◌-◌, ◌*◌, ◌/◌, ◌<◌, ◌≤◌, Bool, true, false, cond, not, ◌&&◌, ◌||◌, List, length, Some, None, Option, ◌==◌, ◌≢◌, nat_le, nat_lt, slice_index}
-use Rattle.bitset.specs.Bits.{holds}
+-- The steps of the elimination: the fill found so far, and junctions whose parents take over from them.
+use Rattle.std.specs.Prelude.{◌≡◌, ℕ, ◌+◌, ◌-◌, ◌*◌, ◌<◌, ◌≤◌, Bool, true, cond, not, ◌&&◌, ◌||◌, List, length, Some, None, Option, ◌==◌, nat_le, nat_lt, slice_index}
+use Rattle.pairs.specs.Rows.{marked}
 use Rattle.plan.specs.Plans.{Plan, pairs}
 use Rattle.plan.specs.Orders.{place}
 use Rattle.plan.specs.Registers.{same_pair}
 use Rattle.plan.specs.declared.number.Junction.{Junction}
-
--- the pair v, w is marked in the rows
-unfoldable pub marked : List ℕ → ℕ → ℕ → Bool
-marked rows v w = nat_le 1 v && nat_le 1 w && nat_le w 512 && holds rows (512 * (v - 1) + (w - 1))
-
--- the rows after the pair v, w was marked: words of other rows stay
-pub record Marks (before : List ℕ) (v w : ℕ) (after : List ℕ) : Type 0 where
-  pub pairs : (a b : ℕ) → marked after a b ≡ (same_pair v w a b || marked before a b)
-  pub others : (k : ℕ) → (k / 8 ≢ v - 1) → (k / 8 ≢ w - 1) → slice_index after k ≡ slice_index before k
-
--- the lowest number above w that passes a test, or nothing where none does
-abbrev pub NextIn : (ℕ → Bool) → ℕ → Option Junction → Type 0
-NextIn t w None = (u : ℕ) → w < u → t u ≡ false
-NextIn t w (Some u) = (w < u.0) × (t u.0 ≡ true) × ((x : ℕ) → w < x → x < u.0 → t x ≡ false)
 
 -- the pair v, w is marked in the row of v, one of the first n
 unfoldable pub found : ℕ → List ℕ → ℕ → ℕ → Bool

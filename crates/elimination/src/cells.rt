@@ -2,21 +2,20 @@
 ghost use Rattle.std.specs.Prelude.{◌≡◌, suc, ◌-◌, ◌≤◌};
 ghost use Rattle.plan.specs.Plans.{count, pairs};
 
-use plan::{Junction, ReadablePlan};
+use plan::{Junction, ReadablePlan, neighbours};
 
 // How many neighbours of w have a number below w.
 fn neighbours_below<P: ReadablePlan>(plan: &P, w: Junction) -> u32
     requires { (1 ≤ w.0) × (w.0 ≤ 512) }
     ensures { result ≡ count (λ v. (P.meaning plan.now).joins (suc v) w.0) (w.0 - 1) }
 {
+    // A loop: `count` of a chain is a usize, and what is added up here a u32.
     let mut found = 0;
-    let mut last = Junction(0);
-    while let Some(v) = plan.next(w, last) {
-        if v.0 > w.0 {
+    for v in neighbours(plan, w) {
+        if v > w {
             break;
         }
         found += 1;
-        last = v;
     }
     found
 }
@@ -25,8 +24,9 @@ fn neighbours_below<P: ReadablePlan>(plan: &P, w: Junction) -> u32
 pub fn pipes<P: ReadablePlan>(plan: &P) -> u32
     ensures { result ≡ pairs (P.meaning plan.now).joins (P.meaning plan.now).size }
 {
+    // A loop: the proof of `map` and `sum` over the range did not close.
     let mut found = 0;
-    for w in 1..plan.size() + 1 {
+    for w in 1..=plan.size() {
         found += neighbours_below(plan, Junction(w));
     }
     found

@@ -4,9 +4,9 @@ ghost use Rattle.plan.specs.Orders.{numbers};
 ghost use Rattle.plan.specs.Refusals.{heard};
 ghost use Rattle.elimination.specs.Rows.{Fills, fill_verdict};
 
-use crate::order::places_of;
-use crate::rows::{ROW, clear};
-use crate::step::eliminate;
+use crate::order::PlaceTable;
+use crate::step::OrderedPlan;
+use pairs::ROW;
 use plan::{Junction, ReadablePlan, Refusal};
 
 /// Eliminates the junctions in the order given: answers the number of fill pairs, and leaves
@@ -19,16 +19,15 @@ pub fn fill<P: ReadablePlan>(plan: &P, order: &[Junction], rows: &mut [u64]) -> 
     ensures written { MatchResult result (λ count. Fills (P.meaning plan.now) (numbers order.now) rows.old count rows.new) (λ _. rows.new ≡ rows.old) }
 {
     let n = plan.size();
-    let Some(places) = places_of(n, order) else {
-        return Err(Refusal::NoOrder);
-    };
-    if rows.len() < ROW * n as usize {
+    let places = PlaceTable::of_order(n, order).ok_or(Refusal::NoOrder)?;
+    if rows.len() < ROW * usize::from(n) {
         return Err(Refusal::ShortMemory);
     }
-    clear(rows, n);
+    pairs::clear(rows, n);
+    let ordered = OrderedPlan { plan, places };
     let mut count = 0;
     for v in order {
-        count += eliminate(plan, &places, rows, *v);
+        count += ordered.eliminate(rows, *v);
     }
     Ok(count)
 }

@@ -5,7 +5,6 @@
 mod cells;
 mod elimination;
 mod order;
-mod rows;
 mod step;
 #[cfg(test)]
 mod tests;

@@ -1,124 +1,98 @@
 //! One step of the elimination: of a junction's neighbours at later places the earliest takes
 //! over the others. The fill that this leaves out comes when that neighbour is eliminated.
-ghost use Rattle.std.specs.Prelude.{◌≡◌, ◌*◌, ◌<◌, ◌≤◌, length, IfSome};
-ghost use Rattle.elimination.specs.Steps.{known, at, NextIn, Table, Earliest, Joins, Adds, TakesOver, Eliminates, earlier_of};
+ghost use Rattle.std.specs.Prelude.{◌≡◌, ◌*◌, ◌<◌, ◌≤◌, length};
+ghost use Rattle.pairs.specs.Rows.{NextIn};
+ghost use Rattle.elimination.specs.Steps.{known, at, Table, Earliest, Joins, Adds, TakesOver, Eliminates};
 
-use crate::rows::{is_marked, mark, next_marked};
+use crate::order::PlaceTable;
 use plan::{Junction, ReadablePlan};
 
-// The place of v.
-fn place_of(places: &[u16; 512], v: Junction) -> u16
-    requires { (1 ≤ v.0) × (v.0 ≤ 512) }
-    ensures { result ≡ at places.now v.0 }
-{
-    places[v.0 as usize - 1]
+/// A plan, with the places of its junctions in the order in which they are eliminated.
+#[derive(Drop)]
+pub(crate) struct OrderedPlan<'a, P> {
+    pub(crate) plan: &'a P,
+    pub(crate) places: PlaceTable,
 }
 
-// The lowest junction above w that is joined to v by a pipe or by the fill found so far.
-fn next_known<P: ReadablePlan>(plan: &P, rows: &[u64], v: Junction, w: Junction) -> Option<Junction>
-    requires { (1 ≤ v.0) × ((v.0 ≤ (P.meaning plan.now).size) × (8 * v.0 ≤ length rows.now)) }
-    ensures { NextIn (known (P.meaning plan.now) rows.now v.0) w.0 result }
-{
-    match (plan.next(v, w), next_marked(rows, v, w)) {
-        (Some(a), Some(b)) => Some(Junction(a.0.min(b.0))),
-        (Some(a), None) => Some(a),
-        (None, b) => b,
+// That v is a junction of the plan is asked of each call: no type says it of a plan that is only
+// borrowed.
+impl<P: ReadablePlan> OrderedPlan<'_, P> {
+    // The lowest junction above w that is joined to v by a pipe or by the fill found so far. No
+    // iterator goes along them: while one junction takes over, the rows that it would hold change.
+    fn next_known(&self, rows: &[u64], v: Junction, w: Junction) -> Option<Junction>
+        requires { v.0 ≤ (P.meaning self.now.plan.now).size }
+        ensures { NextIn (known (P.meaning self.now.plan.now) rows.now v.0) w.0 result }
+    {
+        match (self.plan.next(v, w), pairs::next_marked(rows, v, w)) {
+            (Some(a), Some(b)) => Some(a.min(b)),
+            (Some(a), None) => Some(a),
+            (None, b) => b,
+        }
     }
-}
 
-// Of two junctions the one at the earlier place, where the first may be missing.
-fn earlier(places: &[u16; 512], best: Option<Junction>, u: Junction) -> Junction
-    requires best { IfSome best (λ p. (1 ≤ p.0) × (p.0 ≤ 512)) }
-    requires other { (1 ≤ u.0) × (u.0 ≤ 512) }
-    ensures { result ≡ earlier_of (at places.now) best u }
-{
-    match best {
-        Some(p) => {
-            if place_of(places, p) <= place_of(places, u) {
-                p
-            } else {
-                u
+    // The earliest placed of v's neighbours at later places.
+    fn earliest(&self, rows: &[u64], v: Junction) -> Option<Junction>
+        requires { v.0 ≤ (P.meaning self.now.plan.now).size }
+        ensures { Earliest (known (P.meaning self.now.plan.now) rows.now) (at self.now.places.places) v.0 result }
+    {
+        let mut best = None;
+        let mut last = Junction(0);
+        while let Some(u) = self.next_known(rows, v, last) {
+            if self.places.place_of(v) < self.places.place_of(u) {
+                best = Some(self.places.earlier(best, u));
             }
+            last = u;
         }
-        None => u,
+        best
     }
-}
 
-// The earliest placed of v's neighbours at later places.
-fn earliest<P: ReadablePlan>(
-    plan: &P,
-    places: &[u16; 512],
-    rows: &[u64],
-    v: Junction,
-) -> Option<Junction>
-    requires { (1 ≤ v.0) × ((v.0 ≤ (P.meaning plan.now).size) × (8 * v.0 ≤ length rows.now)) }
-    ensures { Earliest (known (P.meaning plan.now) rows.now) (at places.now) v.0 result }
-{
-    let mut best = None;
-    let mut last = Junction(0);
-    while let Some(u) = next_known(plan, rows, v, last) {
-        if place_of(places, v) < place_of(places, u) {
-            best = Some(earlier(places, best, u));
+    // Joins p and u by fill, unless they are joined already; says whether.
+    fn join(&self, rows: &mut [u64], p: Junction, u: Junction) -> bool
+        requires first { (1 ≤ p.0) × (p.0 ≤ (P.meaning self.now.plan.now).size) }
+        requires second { (1 ≤ u.0) × (u.0 ≤ (P.meaning self.now.plan.now).size) }
+        requires room { 8 * (P.meaning self.now.plan.now).size ≤ length rows.old }
+        ensures { Joins (P.meaning self.now.plan.now) p.0 u.0 rows.old result rows.new }
+    {
+        if self.plan.joined(p, u) || pairs::is_marked(rows, p, u) {
+            return false;
         }
-        last = u;
+        pairs::mark(rows, p, u);
+        true
     }
-    best
-}
 
-// Joins p and u by fill, unless they are joined already; says whether.
-fn join<P: ReadablePlan>(plan: &P, rows: &mut [u64], p: Junction, u: Junction) -> bool
-    requires first { (1 ≤ p.0) × (p.0 ≤ (P.meaning plan.now).size) }
-    requires second { (1 ≤ u.0) × (u.0 ≤ (P.meaning plan.now).size) }
-    requires room { 8 * (P.meaning plan.now).size ≤ length rows.old }
-    ensures { Joins (P.meaning plan.now) p.0 u.0 rows.old result rows.new }
-{
-    if plan.joined(p, u) || is_marked(rows, p, u) {
-        return false;
-    }
-    mark(rows, p, u);
-    true
-}
-
-// Joins p to v's other neighbours at later places; answers how many pairs that adds.
-fn take_over<P: ReadablePlan>(
-    plan: &P,
-    places: &[u16; 512],
-    rows: &mut [u64],
-    v: Junction,
-    p: Junction,
-) -> u32
-    requires table { Table (P.meaning plan.now).size rows.old }
-    requires first { (1 ≤ v.0) × (v.0 ≤ (P.meaning plan.now).size) }
-    requires second { (1 ≤ p.0) × (p.0 ≤ (P.meaning plan.now).size) }
-    requires later { at places.now v.0 < at places.now p.0 }
-    ensures rows { TakesOver (P.meaning plan.now) (at places.now) v.0 p.0 rows.old rows.new }
-    ensures count { Adds (P.meaning plan.now) rows.old result rows.new }
-{
-    let mut added = 0;
-    let mut last = Junction(0);
-    while let Some(u) = next_known(plan, rows, v, last) {
-        if place_of(places, v) < place_of(places, u) && u.0 != p.0 && join(plan, rows, p, u) {
-            added += 1;
+    // Joins p to v's other neighbours at later places; answers how many pairs that adds.
+    fn take_over(&self, rows: &mut [u64], v: Junction, p: Junction) -> u32
+        requires table { Table (P.meaning self.now.plan.now).size rows.old }
+        requires first { (1 ≤ v.0) × (v.0 ≤ (P.meaning self.now.plan.now).size) }
+        requires second { (1 ≤ p.0) × (p.0 ≤ (P.meaning self.now.plan.now).size) }
+        requires later { at self.now.places.places v.0 < at self.now.places.places p.0 }
+        ensures rows { TakesOver (P.meaning self.now.plan.now) (at self.now.places.places) v.0 p.0 rows.old rows.new }
+        ensures count { Adds (P.meaning self.now.plan.now) rows.old result rows.new }
+    {
+        let mut added = 0;
+        let mut last = Junction(0);
+        while let Some(u) = self.next_known(rows, v, last) {
+            if self.places.place_of(v) < self.places.place_of(u)
+                && u != p
+                && self.join(rows, p, u)
+            {
+                added += 1;
+            }
+            last = u;
         }
-        last = u;
+        added
     }
-    added
-}
 
-/// Eliminates v, the first that is left; answers how many fill pairs that adds.
-pub(crate) fn eliminate<P: ReadablePlan>(
-    plan: &P,
-    places: &[u16; 512],
-    rows: &mut [u64],
-    v: Junction,
-) -> u32
-    requires table { Table (P.meaning plan.now).size rows.old }
-    requires junction { (1 ≤ v.0) × (v.0 ≤ (P.meaning plan.now).size) }
-    ensures rows { Eliminates (P.meaning plan.now) (at places.now) v.0 rows.old rows.new }
-    ensures count { Adds (P.meaning plan.now) rows.old result rows.new }
-{
-    match earliest(plan, places, rows, v) {
-        Some(p) => take_over(plan, places, rows, v, p),
-        None => 0,
+    /// Eliminates v, the first that is left; answers how many fill pairs that adds.
+    pub(crate) fn eliminate(&self, rows: &mut [u64], v: Junction) -> u32
+        requires table { Table (P.meaning self.now.plan.now).size rows.old }
+        requires junction { (1 ≤ v.0) × (v.0 ≤ (P.meaning self.now.plan.now).size) }
+        ensures rows { Eliminates (P.meaning self.now.plan.now) (at self.now.places.places) v.0 rows.old rows.new }
+        ensures count { Adds (P.meaning self.now.plan.now) rows.old result rows.new }
+    {
+        match self.earliest(rows, v) {
+            Some(p) => self.take_over(rows, v, p),
+            None => 0,
+        }
     }
 }

@@ -19,15 +19,15 @@ impl ReadablePlan for Ring {
     }
 
     fn serves(&self, v: Junction) -> bool {
-        1 <= v.0 && v.0 <= 4
+        v.is_within(4)
     }
 
     fn joined(&self, v: Junction, w: Junction) -> bool {
-        1 <= v.0 && v.0 <= 4 && 1 <= w.0 && w.0 <= 4 && (v.0 + w.0) % 2 == 1
+        v.is_within(4) && w.is_within(4) && (v.0 + w.0) % 2 == 1
     }
 
     fn next(&self, v: Junction, w: Junction) -> Option<Junction> {
-        if v.0 < 1 || v.0 > 4 || w.0 > 3 {
+        if !v.is_within(4) || w.0 > 3 {
             return None;
         }
         let next = if (v.0 + w.0) % 2 == 0 {
@@ -39,19 +39,11 @@ impl ReadablePlan for Ring {
     }
 }
 
-// The count, or 1000 more than the number of the refusal.
-fn heard(answer: Result<u32, Refusal>) -> u32 {
-    match answer {
-        Ok(count) => count,
-        Err(refusal) => 1000 + u32::from(refusal.code()),
-    }
-}
-
 #[test]
 fn finds_the_fill_of_a_ring(rt: HostRuntime) {
     let mut rows = [7; 33];
     let order = [Junction(3), Junction(4), Junction(2), Junction(1)];
-    assert_eq!(rt; heard(fill(&Ring, &order, &mut rows)), 1);
+    assert_eq!(rt; fill(&Ring, &order, &mut rows), Ok(1));
     assert_eq!(rt; rows[0], 0);
     assert_eq!(rt; rows[8], 1 << 3);
     assert_eq!(rt; rows[24], 1 << 1);
@@ -62,9 +54,9 @@ fn finds_the_fill_of_a_ring(rt: HostRuntime) {
 fn turns_down_what_is_no_order_before_short_memory(rt: HostRuntime) {
     let mut rows = [7; 31];
     let twice = [Junction(3), Junction(4), Junction(3), Junction(1)];
-    assert_eq!(rt; heard(fill(&Ring, &twice, &mut rows)), 1009);
+    assert_eq!(rt; fill(&Ring, &twice, &mut rows), Err(Refusal::NoOrder));
     let order = [Junction(3), Junction(4), Junction(2), Junction(1)];
-    assert_eq!(rt; heard(fill(&Ring, &order, &mut rows)), 1008);
+    assert_eq!(rt; fill(&Ring, &order, &mut rows), Err(Refusal::ShortMemory));
     assert_eq!(rt; rows[0], 7);
 }
 

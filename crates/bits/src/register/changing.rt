@@ -1,7 +1,6 @@
 //! Changing a bit register, one pipe at a time.
 use crate::register::BitRegister;
-use crate::rows::{add_pipe, take_pipe};
-use plan::{Junction, ReadablePlan, Refusal, Register};
+use plan::{Junction, ReadablePlan, Refusal, Register, check_ends};
 
 /// The bit register as a register. Every junction is in service and every pair has room, so 11
 /// and 14 do not occur.
@@ -13,32 +12,22 @@ impl Register for BitRegister {
     }
 
     fn join(&mut self, v: Junction, w: Junction) -> Result<(), Refusal> {
-        if !self.has(v) || !self.has(w) {
-            return Err(Refusal::NoJunction);
-        }
-        if v.0 == w.0 {
-            return Err(Refusal::OneJunction);
-        }
+        check_ends(self.n, v, w)?;
         if self.joined(v, w) {
             return Err(Refusal::JoinedAlready);
         }
         // The spare counts every pair that is not joined, this one among them, so it is not 0.
-        add_pipe(&mut self.words, v, w);
+        pairs::mark(&mut self.words, v, w);
         self.spare -= 1;
         Ok(())
     }
 
     fn cut(&mut self, v: Junction, w: Junction) -> Result<(), Refusal> {
-        if !self.has(v) || !self.has(w) {
-            return Err(Refusal::NoJunction);
-        }
-        if v.0 == w.0 {
-            return Err(Refusal::OneJunction);
-        }
+        check_ends(self.n, v, w)?;
         if !self.joined(v, w) {
             return Err(Refusal::NotJoined);
         }
-        take_pipe(&mut self.words, v, w);
+        pairs::unmark(&mut self.words, v, w);
         self.spare += 1;
         Ok(())
     }

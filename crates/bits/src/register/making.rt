@@ -2,7 +2,7 @@
 ghost use Rattle.bits.specs.Making.{Making};
 
 use crate::register::BitRegister;
-use crate::rows::clear;
+use pairs::ROW;
 use plan::{Refusal, TurnedDown};
 
 impl BitRegister {
@@ -17,14 +17,14 @@ impl BitRegister {
                 memory,
             });
         }
-        if memory.len() < 8 * n as usize {
+        if memory.len() < ROW * usize::from(n) {
             return Err(TurnedDown {
                 refusal: Refusal::ShortMemory,
                 memory,
             });
         }
-        clear(&mut memory, n);
-        let junctions = n as u32;
+        pairs::clear(&mut memory, n);
+        let junctions = u32::from(n);
         Ok(BitRegister {
             n,
             spare: junctions * (junctions - 1) / 2,

@@ -1,19 +1,25 @@
-use Rattle.std.proofs.Common.{arith}
+use Rattle.std.proofs.Common.{◌<◌, ◌≤◌, rules, arith}
+use Rattle.plan.proofs.Walks.{goes_along, meets_next}
 use Rattle.elimination.proofs.Counting.{below_more, below_all, below_few}
 use Rattle.elimination.proofs.cells.neighbours_below.Goals as goal
 
 pub overflow_add-found : goal.overflow_add-found
 overflow_add-found g c =
-    record { fits = omega (arith, below_few (g.met.P.ReadablePlan.sound c.args.plan.now) c.loop-v.invariant, c.requires) }
+    record { fits = omega (arith, below_few (g.met.P.ReadablePlan.sound c.args.plan.now) c.loop-v.invariant.1, c.requires) }
 
 pub loop-v-preserved : goal.loop-v-preserved
 loop-v-preserved g c =
-    below_more (g.met.P.ReadablePlan.sound c.args.plan.now) c.loop-v.invariant c.in-Some.v c.in-Some.ensures c.if-v-w.false
+    let s = c.in-Some.ensures.steps in
+    let m = meets_next g.P.ReadablePlan.meaning c.loop-v.invariant.0 s in
+    let l : c.in-Some.v.0 ≤ c.args.w.0 = search rules in
+    (goes_along g.P.ReadablePlan.meaning c.loop-v.invariant.0 s, rw s.0.stands (below_more (g.met.P.ReadablePlan.sound c.args.plan.now) c.loop-v.invariant.1 c.in-Some.v m l))
 
-pub returns-then-v-w : goal.returns-then-v-w
-returns-then-v-w g c =
-    below_all (g.met.P.ReadablePlan.sound c.args.plan.now) c.loop-v.invariant (λ x i j. c.in-Some.ensures.2 x i (omega (arith, j, c.if-v-w.true)))
+pub returns-then-gt : goal.returns-then-gt
+returns-then-gt g c =
+    let m = meets_next g.P.ReadablePlan.meaning c.loop-v.invariant.0 c.in-Some.ensures.steps in
+    let l : c.args.w.0 < c.in-Some.v.0 = search rules in
+    below_all (g.met.P.ReadablePlan.sound c.args.plan.now) c.loop-v.invariant.1 (λ x i j. m.2 x i (omega (arith, j)))
 
-pub returns-in_default : goal.returns-in_default
-returns-in_default g c =
-    below_all (g.met.P.ReadablePlan.sound c.args.plan.now) c.loop-v.invariant (λ x i j. c.in_default.ensures x i)
+pub returns-in-None : goal.returns-in-None
+returns-in-None g c =
+    below_all (g.met.P.ReadablePlan.sound c.args.plan.now) c.loop-v.invariant.1 (λ x i j. meets_next g.P.ReadablePlan.meaning c.loop-v.invariant.0 c.in-None.ensures.steps x i)

@@ -1,9 +1,7 @@
-use Rattle.std.proofs.Common.{◌-◌}
+use Rattle.plan.proofs.Walks.{Along}
 use Rattle.elimination.proofs.Counting.{BelowTo}
 use Rattle.elimination.proofs.cells.neighbours_below.Given as goal
 
 abbrev pub invariant-loop-v : goal.invariant-loop-v
-invariant-loop-v g l = BelowTo (g.P.ReadablePlan.meaning l.plan) l.w.0 l.last.0 l.found
-
-abbrev pub decreases-loop-v : goal.decreases-loop-v
-decreases-loop-v g l = 512 - l.last.0
+invariant-loop-v g l =
+    Along l.v-iterator.plan.now l.plan l.v-iterator.of l.w × BelowTo (g.P.ReadablePlan.meaning l.plan) l.w.0 l.v-iterator.last.0 l.found

@@ -4,10 +4,6 @@ use Rattle.plan.proofs.Counts.{pairs_few}
 use Rattle.elimination.proofs.Counting.{pairs_next}
 use Rattle.elimination.proofs.cells.pipes.Goals as goal
 
-pub loop-w-preserved : goal.loop-w-preserved
-loop-w-preserved g c =
-    omega (arith, c.loop-w.invariant, c.neighbours_below-found.ensures, pairs_next (g.P.ReadablePlan.meaning c.args.plan.now).joins c.loop-w.w c.loop-w.auto.w)
-
 pub overflow_add-found : goal.overflow_add-found
 overflow_add-found g c =
     let few : pairs (g.P.ReadablePlan.meaning c.args.plan.now).joins ((c.loop-w.w + 1) - 1) ≤ 131072 = pairs_few (g.P.ReadablePlan.meaning c.args.plan.now).joins ((c.loop-w.w + 1) - 1) (omega (arith, c.loop-w-test.true, c.size-w-end.ensures.few)) in

@@ -14,7 +14,7 @@ invariant_of-result c =
       room = omega arith;
       alike = λ a b. none a b ∙ sym (none b a);
       apart = λ a. none a a;
-      counted = counted-blank c.args.n (vec_items (with_items c.args.memory c.clear.new.words)) none;
+      counted = rw c.from-junctions.ensures (counted-blank c.args.n (vec_items (with_items c.args.memory c.clear.new.words)) none);
     }
 
 pub returns : goal.returns
@@ -23,7 +23,7 @@ returns c =
       says = new_passes c.args.n (vec_len c.args.memory) (omega arith) (omega arith) (omega arith);
       plan = plan_same c.args.n (joined c.args.n (vec_items (with_items c.args.memory c.clear.new.words))) (λ a b. false)
           (lent_blank c.args.memory c.deref_mut.result.now c.clear.new.words c.args.n c.deref_mut.ensures.value c.clear.auto.words (omega arith) c.clear.ensures.cleared);
-      spare = refl;
+      spare = rw c.from-junctions.ensures refl;
       long = refl;
       behind = lent_behind c.args.memory c.deref_mut.result.now c.clear.new.words c.args.n c.deref_mut.ensures.value c.clear.auto.words c.clear.ensures.behind;
     }
