@@ -4,7 +4,7 @@ use Rattle.std.proofs.lemmas.Bool.{and_parts}
 use Rattle.std.proofs.lemmas.Bool.Decides.{nat_tests}
 use Rattle.plan.specs.Plans.{within}
 use Rattle.plan.specs.Registers.{same_pair}
-use Rattle.plan.proofs.Pipes.{within_parts}
+use Rattle.plan.proofs.PipeLaws.{within_parts}
 use Rattle.bitset.specs.Bits.{holds}
 use Rattle.pairs.specs.Rows.{number, marked}
 use Rattle.pairs.proofs.Marked.{marked-holds, marked_blank}

@@ -5,7 +5,7 @@ use Rattle.std.proofs.lemmas.Bool.{cases_Bool}
 use Rattle.std.proofs.lemmas.Bool.Decides.{nat_tests}
 use Rattle.plan.specs.Plans.{within, NextNeighbour}
 use Rattle.plan.specs.declared.number.Junction.{Junction}
-use Rattle.plan.proofs.Pipes.{within_parts}
+use Rattle.plan.proofs.PipeLaws.{within_parts}
 use Rattle.pairs.specs.Rows.{marked, NextIn}
 use Rattle.bits.specs.Rows.{joined, kept}
 use Rattle.bits.proofs.Marks.{joined-mark}

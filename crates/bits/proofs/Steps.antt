@@ -16,7 +16,7 @@ use Rattle.bits.proofs.Marks.{joined_changed}
 use Rattle.pairs.specs.Rows.{number, has_row, marked, Marks, Unmarks}
 use Rattle.pairs.proofs.Marking.{has_row_from}
 use Rattle.plan.proofs.Memory.{items_refilled}
-use Rattle.plan.proofs.Pipes.{plan_same, within_parts, joins_carried, cuts_carried, added_alike, added_apart, taken_alike, taken_apart, pairs_added, pairs_taken}
+use Rattle.plan.proofs.PipeLaws.{plan_same, within_parts, joins_carried, cuts_carried, added_alike, added_apart, taken_alike, taken_apart, pairs_added, pairs_taken}
 
 -- the words of a register after they were lent and the marks of a pair were changed
 module _ (words : Vec ℕ Global) (lent last : List ℕ) (n v w : ℕ) (Lent-is : lent ≡ vec_items words) (long : length last ≡ length lent) (few : n ≤ 512) (v-in : within n v ≡ true) (w-in : within n w ≡ true) where

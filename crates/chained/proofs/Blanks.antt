@@ -7,7 +7,7 @@ use Rattle.std.proofs.lemmas.Bool.Decides.{nat_tests}
 use Rattle.plan.specs.Refusals.{carried}
 use Rattle.plan.proofs.Counts.{pairs-none}
 use Rattle.plan.proofs.Memory.{items_refilled}
-use Rattle.plan.proofs.Pipes.{within_parts}
+use Rattle.plan.proofs.PipeLaws.{within_parts}
 use Rattle.chained.specs.Chains.{FreeAt}
 use Rattle.chained.specs.Changes.{LaidOut}
 use Rattle.chained.specs.Nodes.{next, far, owner, joined}

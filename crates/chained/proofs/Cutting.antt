@@ -5,7 +5,7 @@ use Rattle.std.proofs.lemmas.Bool.{cases_eq, cases_lt, cases_Bool, cond-true, co
 use Rattle.std.proofs.lemmas.Bool.Decides.{same_from_decides}
 use Rattle.plan.specs.Plans.{within, pairs}
 use Rattle.plan.specs.Registers.{same_pair}
-use Rattle.plan.proofs.Pipes.{within_parts, same_pair_ways, same_pair_of, pairs_taken}
+use Rattle.plan.proofs.PipeLaws.{within_parts, same_pair_ways, same_pair_of, pairs_taken}
 use Rattle.chained.specs.Chains.{Seat, Bounded, Paired, Apart}
 use Rattle.chained.specs.Changes.{unlinked, with_ends, pair_behind, without_pair}
 use Rattle.chained.specs.Nodes.{next, far, owner, joined}

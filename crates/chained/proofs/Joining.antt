@@ -4,7 +4,7 @@ use Rattle.std.proofs.lemmas.Bool.{cases_eq, cond-true, cond-false, eq-eqb, ne_e
 use Rattle.std.proofs.lemmas.Bool.Decides.{same_from_decides}
 use Rattle.plan.specs.Plans.{within, pairs}
 use Rattle.plan.specs.Registers.{same_pair}
-use Rattle.plan.proofs.Pipes.{within_parts, same_pair_ways, same_pair_of, pairs_added}
+use Rattle.plan.proofs.PipeLaws.{within_parts, same_pair_ways, same_pair_of, pairs_added}
 use Rattle.chained.specs.Chains.{Seat, FreeAt, Bounded, Paired, Apart}
 use Rattle.chained.specs.Changes.{linked, with_ends, with_pair}
 use Rattle.chained.specs.Nodes.{next, far, owner, joined}

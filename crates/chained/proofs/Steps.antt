@@ -8,7 +8,7 @@ use Rattle.plan.specs.declared.number.Junction.{Junction}
 use Rattle.plan.specs.Refusals.{carried, refused, checked}
 use Rattle.plan.specs.Registers.{same_pair, join_verdict, cut_verdict, Joins, Cuts}
 use Rattle.plan.proofs.Memory.{items_refilled}
-use Rattle.plan.proofs.Pipes.{within_parts, plan_same, joins_carried, cuts_carried}
+use Rattle.plan.proofs.PipeLaws.{within_parts, plan_same, joins_carried, cuts_carried}
 use Rattle.plan.proofs.Verdicts.{join_refused, cut_refused, ends_verdict, ends_passed}
 use Rattle.chained.specs.declared.register.ChainedRegister.{ChainedRegister}
 use Rattle.chained.specs.Changes.{unlinked, with_pair, pair_behind, without_pair}

@@ -4,7 +4,7 @@ use Rattle.std.proofs.Common.{sym, ap, ◌∙◌, inl, inr, arith}
 use Rattle.std.proofs.lemmas.Bool.{cases_Bool, cases_eq, and_from, le-leb, eq-eqb, ne_eqb}
 use Rattle.plan.specs.declared.number.Junction.{Junction}
 use Rattle.plan.specs.Plans.{within, Sound, NextNeighbour}
-use Rattle.plan.proofs.Pipes.{within_parts}
+use Rattle.plan.proofs.PipeLaws.{within_parts}
 use Rattle.chained.specs.declared.register.ChainedRegister.{ChainedRegister}
 use Rattle.chained.specs.Nodes.{far, owner, joined}
 use Rattle.chained.specs.Making.{plan_of}

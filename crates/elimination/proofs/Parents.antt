@@ -5,7 +5,7 @@ use Rattle.plan.specs.Plans.{Plan, Sound, pairs}
 use Rattle.plan.specs.Registers.{same_pair}
 use Rattle.plan.specs.declared.number.Junction.{Junction}
 use Rattle.plan.proofs.Counts.{pairs_same}
-use Rattle.plan.proofs.Pipes.{pairs_added}
+use Rattle.plan.proofs.PipeLaws.{pairs_added}
 use Rattle.pairs.specs.Rows.{NextIn}
 use Rattle.elimination.specs.Steps.{found, known, Joins, Table, takes, taken, TakesOver, Eliminates}
 use Rattle.elimination.proofs.Neighbours.{found_parts, known_inside}

@@ -2,7 +2,6 @@
 
 #![tactic(auto)]
 
-mod cells;
 mod elimination;
 mod order;
 mod step;
@@ -10,6 +9,6 @@ mod step;
 mod tests;
 mod theorems;
 
-pub use cells::pipes;
 pub use elimination::fill;
+pub use plan::pipes;
 pub use theorems::{no_fill_law, path_law, worked_plans};

@@ -1,12 +1,9 @@
 -- The neighbours of a junction above it, and the indices of their records.
 use Rattle.std.specs.Prelude.{◌≡◌, ℕ, zero, suc, ◌+◌, ◌-◌, ◌*◌, ◌<◌, ◌≤◌, Bool, true, false, cond, ◌&&◌, ◌⊎◌, nat_lt}
-use Rattle.std.specs.List.{range_with_len, sum_by}
 use Rattle.std.proofs.Math.Path.{refl, ap}
 use Rattle.std.proofs.Common.{sym, ◌∙◌, inl, inr}
 use native.Mathlib.Omega.{arith}
 use Rattle.std.proofs.lemmas.Bool.{cases_lt, cases_Bool, and_from, and_left, lt-ltb, le-ltb}
-use Rattle.std.proofs.lemmas.List.Sums.{sum_by-cons}
-use Rattle.std.proofs.lemmas.Nat.{mul-le}
 use Rattle.plan.specs.Plans.{Plan, count, pairs}
 use Rattle.plan.proofs.Counts.{count-le, count_none, count_flat}
 use Rattle.image.specs.Writing.{upper, uppers, pipes_to, link}
@@ -167,19 +164,3 @@ module _ (p : Plan) where
 
   pub pipes_pairs : pipes_to p p.size ≡ pairs p.joins p.size
   pipes_pairs = sym (rows_to p.size) ∙ rows_pairs p.size
-
-  pub pipes_to_few : (v : ℕ) → p.size ≤ 512 → v ≤ p.size → pipes_to p v ≤ 262656
-  pipes_to_few v few l = omega (arith, pipes_to_most p v, mul-le (suc p.size) v 513 512 (omega arith) (omega arith))
-
-  -- the neighbours above each of n junctions from b + 1 on
-  pipes_from : (n b : ℕ) → pipes_to p b + sum_by (λ v. uppers p v p.size) (range_with_len (b + 1) n) ≡ pipes_to p (b + n)
-  pipes_from zero b = let e : b + 0 ≡ b = omega arith in rw e (omega arith)
-  pipes_from (suc n) b =
-      let e : b + suc n ≡ (b + 1) + n = omega arith in
-      let d : b + 1 - 1 ≡ b = omega arith in
-      let s : pipes_to p (b + 1) ≡ pipes_to p b + uppers p (b + 1) p.size = rw d at (pipes_to_step p (b + 1) (omega arith)) in
-      rw (e, sum_by-cons) (omega (arith, pipes_from n (b + 1)))
-
-  pub pipes_summed : (n : ℕ) → sum_by (λ v. uppers p v p.size) (range_with_len 1 n) ≡ pipes_to p n
-  unfolding pipes_to
-  pipes_summed n = let e : 0 + n ≡ n = omega arith in omega (arith, rw e at (pipes_from n 0))

@@ -5,7 +5,7 @@ use Rattle.std.proofs.lemmas.Bool.{cases_eq, cases_Bool, both_ways, and_parts, a
 use Rattle.plan.specs.Plans.{Sound, within}
 use Rattle.plan.specs.Refusals.{Verdict, carried, refused}
 use Rattle.plan.specs.Registers.{same_pair}
-use Rattle.plan.proofs.Pipes.{within_parts, same_pair_swapped}
+use Rattle.plan.proofs.PipeLaws.{within_parts, same_pair_swapped}
 use Rattle.plan.proofs.Verdicts.{carried≢refused}
 use Rattle.image.specs.Chains.{sound_from, sound_chain, reaches, in_chain, reached, pipe, plan_of}
 use Rattle.image.specs.Images.{Image, field, image_of, image_length}

@@ -5,7 +5,7 @@ ghost use Rattle.image.specs.Writing.{chain_to, heads, pipes_to, records_to, upp
 
 use crate::fields::{put, put_all};
 use crate::header::{EDITION, MOST_RECORDS};
-use plan::{Junction, ReadablePlan, Refusal, neighbours_above};
+use plan::{Junction, ReadablePlan, Refusal, neighbours_above, pipes};
 
 /// How many neighbours of v are above it.
 fn upper_count<P: ReadablePlan>(plan: &P, v: Junction) -> usize
@@ -13,15 +13,6 @@ fn upper_count<P: ReadablePlan>(plan: &P, v: Junction) -> usize
     ensures { result ≡ uppers (P.ReadablePlan.meaning plan.now) v.0 (P.ReadablePlan.meaning plan.now).size }
 {
     neighbours_above(plan, v, v).count()
-}
-
-/// How many pipes the plan has.
-fn pipe_count<P: ReadablePlan>(plan: &P) -> usize
-    ensures { result ≡ pipes_to (P.ReadablePlan.meaning plan.now) (P.ReadablePlan.meaning plan.now).size }
-{
-    (1..plan.size() + 1)
-        .map(|v| upper_count(plan, Junction(v)))
-        .sum()
 }
 
 /// Writes the heads into their stretch, one field for each junction.
@@ -85,7 +76,7 @@ pub fn write<P: ReadablePlan>(plan: &P, out: &mut [u8]) -> Result<usize, Refusal
     ensures { Writing (P.ReadablePlan.meaning plan.now) out.old result out.new }
 {
     let n = plan.size();
-    let records = pipe_count(plan);
+    let records = pipes(plan) as usize;
     if records > MOST_RECORDS as usize {
         return Err(Refusal::TooManyPipes);
     }

@@ -4,7 +4,7 @@ use Rattle.std.proofs.lemmas.Bool.{le-ltb, ltb-false}
 use Rattle.std.specs.declared.convert.Infallible.{Infallible}
 use Rattle.plan.specs.Plans.{Plan, Sound, within, blank}
 use Rattle.plan.specs.Refusals.{Verdict, carried, checked, after}
-use Rattle.plan.proofs.Pipes.{within_parts}
+use Rattle.plan.proofs.PipeLaws.{within_parts}
 use Rattle.plan.proofs.Verdicts.{all_passed}
 use Rattle.chained.specs.Making.{new_verdict}
 use Rattle.label.specs.Sets.{no_marks, with_mark, compared_sets}

@@ -1,7 +1,8 @@
+pub mod Below
 pub mod Counts
 pub mod Memory
 pub mod Numbers
 pub mod Orders
-pub mod Pipes
+pub mod PipeLaws
 pub mod Verdicts
 pub mod Walks

@@ -3,6 +3,7 @@
 
 #![tactic(auto)]
 
+mod counting;
 mod ends;
 mod number;
 mod readable;
@@ -11,6 +12,7 @@ mod register;
 mod turned_down;
 mod walk;
 
+pub use counting::pipes;
 pub use ends::check_ends;
 pub use number::{Junction, Place};
 pub use readable::ReadablePlan;

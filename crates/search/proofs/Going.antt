@@ -31,7 +31,6 @@ length-listed n places h =
 
 -- ---- the start
 module _ {L : Type 0} (blank : L) (raised : L → ℕ → L) (compared : L → L → Ordering) (p : Plan) (places : List Junction) (labels : List L) (scratch : List ℕ) where
-
   -- ---- the end
   pub going_end : Going blank raised compared p places labels scratch 0 → Searched blank raised compared p (listed p.size places)
   going_end g = record {

@@ -8,7 +8,6 @@ folded_append f a [] ys = refl
 folded_append f a (x ∷ xs) ys = folded_append f (f a x) xs ys
 
 module _ {L : Type 0} (blank : L) (raised : L → ℕ → L) (joins : ℕ → ℕ → Bool) where
-
   -- the junctions of the places above p are all that counts
   pub label_same : (us ws : List ℕ) (p v : ℕ) → drop p us ≡ drop p ws → label blank raised joins us p v ≡ label blank raised joins ws p v
   label_same us ws p v e = ap (λ xs. fold raised blank (marks joins v (suc p) xs)) e

@@ -13,7 +13,7 @@ use Rattle.image.specs.Ranges.{some}
 use Rattle.image.specs.Reading.{read_verdict, has_record}
 use Rattle.image.specs.RangesLemmas.{some-none}
 use Rattle.image.proofs.SoundImages.{sound_laws, record_present}
-use Rattle.plan.proofs.Pipes.{within_parts}
+use Rattle.plan.proofs.PipeLaws.{within_parts}
 use Rattle.image.specs.Sounds.{within_from}
 use Rattle.set.specs.Laws.{WritesPipes, LoadLaws}
 use Rattle.set.specs.Ledgers.{Ledger, seen, clear, then, load_checks, with_joined, with_records, with_loaded}

@@ -1,5 +1,5 @@
 use Rattle.std.proofs.Common.{◌≤◌, sym, ◌∙◌}
-use Rattle.plan.proofs.Pipes.{within_parts}
+use Rattle.plan.proofs.PipeLaws.{within_parts}
 use Rattle.pairs.proofs.Marked.{row_read, unmarked_off}
 use Rattle.pairs.proofs.is_marked.Goals as goal
 

@@ -1,6 +1,6 @@
 use Rattle.std.proofs.Common.{◌≡◌, ℕ, false, vec_items, vec_len, sym, refl, ◌∙◌, arith}
 use Rattle.std.specs.Vec.{with_items}
-use Rattle.plan.proofs.Pipes.{plan_same}
+use Rattle.plan.proofs.PipeLaws.{plan_same}
 use Rattle.bits.specs.Rows.{joined}
 use Rattle.bits.proofs.Blanks.{lent_blank, lent_behind, counted-blank, new_passes}
 use Rattle.bits.proofs.register.BitRegister.new.Goals as goal

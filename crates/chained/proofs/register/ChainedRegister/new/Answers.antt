@@ -1,6 +1,6 @@
 use Rattle.std.proofs.Common.{false, vec_items, vec_len, refl, arith}
 use Rattle.std.specs.Vec.{with_items}
-use Rattle.plan.proofs.Pipes.{plan_same}
+use Rattle.plan.proofs.PipeLaws.{plan_same}
 use Rattle.chained.specs.Changes.{LaidOut}
 use Rattle.chained.specs.Nodes.{joined}
 use Rattle.chained.proofs.Blanks.{laid_refilled, kept_blank, joined_none, new_passes}

@@ -22,8 +22,3 @@ pub returns-else-cells-next : goal.returns-else-cells-next
 returns-else-cells-next c =
     walk_ends c.args.self.now (c.args.v.0 - 1) c.args.w c.as_slice-cells.result.now c.as_slice-cells.ensures.value c.loop-next.node c.loop-next.next c.loop-next.invariant c.args.v.0
     (omega (arith, within_parts c.args.self.now.n c.args.v.0 c.requires.0)) (λ m. c.if-cells-next.false)
-
-pub returns-after-loop-next : goal.returns-after-loop-next
-returns-after-loop-next c =
-    walk_ends c.args.self.now (c.args.v.0 - 1) c.args.w c.as_slice-cells.result.now c.as_slice-cells.ensures.value c.loop-next.node c.loop-next.next c.loop-next.invariant c.args.v.0
-    (omega (arith, within_parts c.args.self.now.n c.args.v.0 c.requires.0)) (λ m. absurd (omega (arith, c.loop-next-test.false)))

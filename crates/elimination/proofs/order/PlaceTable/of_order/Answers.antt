@@ -1,7 +1,7 @@
 use Rattle.std.proofs.Common.{◌≡◌, ◌<◌, ◌≤◌, length, get_or, sym, ◌∙◌, arith}
 use Rattle.plan.specs.Orders.{numbers}
 use Rattle.plan.proofs.Numbers.{length-numbers, getD_numbers}
-use Rattle.plan.proofs.Pipes.{within_parts}
+use Rattle.plan.proofs.PipeLaws.{within_parts}
 use Rattle.elimination.proofs.Placing.{located_none, located_more, ordered_all, places_all, not-ordered-outside, not_ordered_twice}
 use Rattle.elimination.proofs.order.PlaceTable.of_order.Goals as goal
 use Rattle.elimination.proofs.order.PlaceTable.of_order.Goals.{then-not-is_within-via-then-not-is_within, then-not-is_within-via-else-not-is_within+then-places-index-ne0}

@@ -1,5 +1,5 @@
 use Rattle.std.proofs.Common.{ap, arith, rules, tests}
-use Rattle.plan.proofs.Pipes.{within_parts}
+use Rattle.plan.proofs.PipeLaws.{within_parts}
 use Rattle.image.specs.declared.layout.Layout.{Layout}
 use Rattle.image.specs.Sounds.{sound_chained, is_sound_carried}
 use Rattle.image.proofs.ChainWalks.{Toward, toward_starts, first_above}

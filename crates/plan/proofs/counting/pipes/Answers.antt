@@ -1,8 +1,8 @@
 use Rattle.std.proofs.Common.{◌+◌, ◌-◌, ◌≤◌, arith}
 use Rattle.plan.specs.Plans.{pairs}
 use Rattle.plan.proofs.Counts.{pairs_few}
-use Rattle.elimination.proofs.Counting.{pairs_next}
-use Rattle.elimination.proofs.cells.pipes.Goals as goal
+use Rattle.plan.proofs.Below.{pairs_next}
+use Rattle.plan.proofs.counting.pipes.Goals as goal
 
 pub overflow_add-found : goal.overflow_add-found
 overflow_add-found g c =

@@ -1,6 +1,6 @@
 use Rattle.std.proofs.Common.{◌≡◌, ◌-◌}
 use Rattle.plan.specs.Plans.{pairs}
-use Rattle.elimination.proofs.cells.pipes.Given as goal
+use Rattle.plan.proofs.counting.pipes.Given as goal
 
 abbrev pub invariant-loop-w : goal.invariant-loop-w
 invariant-loop-w g l = l.found ≡ pairs (g.P.ReadablePlan.meaning l.plan).joins (l.w - 1)

@@ -1,6 +1,6 @@
 use Rattle.plan.proofs.Walks.{Along}
-use Rattle.elimination.proofs.Counting.{BelowTo}
-use Rattle.elimination.proofs.cells.neighbours_below.Given as goal
+use Rattle.plan.proofs.Below.{BelowTo}
+use Rattle.plan.proofs.counting.neighbours_below.Given as goal
 
 abbrev pub invariant-loop-v : goal.invariant-loop-v
 invariant-loop-v g l =

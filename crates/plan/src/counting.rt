@@ -2,7 +2,9 @@
 ghost use Rattle.std.specs.Prelude.{◌≡◌, suc, ◌-◌, ◌≤◌};
 ghost use Rattle.plan.specs.Plans.{count, pairs};
 
-use plan::{Junction, ReadablePlan, neighbours};
+use crate::number::Junction;
+use crate::readable::ReadablePlan;
+use crate::walk::neighbours;
 
 // How many neighbours of w have a number below w.
 fn neighbours_below<P: ReadablePlan>(plan: &P, w: Junction) -> u32

@@ -1,7 +1,7 @@
 use Rattle.std.proofs.Common.{◌<◌, ◌≤◌, rules, arith}
 use Rattle.plan.proofs.Walks.{goes_along, meets_next}
-use Rattle.elimination.proofs.Counting.{below_more, below_all, below_few}
-use Rattle.elimination.proofs.cells.neighbours_below.Goals as goal
+use Rattle.plan.proofs.Below.{below_more, below_all, below_few}
+use Rattle.plan.proofs.counting.neighbours_below.Goals as goal
 
 pub overflow_add-found : goal.overflow_add-found
 overflow_add-found g c =
