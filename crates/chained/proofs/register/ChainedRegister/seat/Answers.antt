@@ -1,5 +1,5 @@
 use Rattle.std.proofs.Common.{◌-◌, arith}
-use Rattle.plan.proofs.Pipes.{within_parts}
+use Rattle.plan.proofs.PipeLaws.{within_parts}
 use Rattle.chained.specs.Walks.{walk_starts, walk_goes, walk_falls, walk_ends}
 use Rattle.chained.proofs.register.ChainedRegister.seat.Goals as goal
 
