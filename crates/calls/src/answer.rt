@@ -7,6 +7,7 @@ use plan::Refusal;
 #[derive(Clone, Copy)]
 pub enum Outcome {
     Done,
+    // With n, since of the lists handed over n entries are in use.
     Ordered(u16, Report),
 }
 

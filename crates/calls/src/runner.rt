@@ -19,6 +19,7 @@ use set::Set;
 /// entries for the places, the ring and the labels, 8n words of rows and 2n entries of scratch;
 /// without them it is turned down by 8. Where the listener fails, the calls behind are not made.
 /// Labels and scratch are as before where no order is carried out.
+// Five slices of memory, for the reason that stands at `order::order`.
 pub fn run<R: Register, K: Kind, L: Listener>(
     set: &mut Set<R>,
     calls: &[Call<'_, K>],

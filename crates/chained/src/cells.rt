@@ -11,6 +11,9 @@ pub(crate) struct Seat {
     pub(crate) node: u16,
 }
 
+// `cells` and `c` are handed along apart: between these steps the register's invariants do not hold,
+// and a struct of both would be made anew for each of its two calls.
+
 /// Puts node x behind node s.
 fn link(cells: &mut [u16], s: u16, x: u16)
     requires { (s < length cells.old) × (x < length cells.old) }

@@ -23,6 +23,7 @@ pub const PIPES: u16 = 8000;
 /// `image::check`), and by 8 where the register has not n + 32,000 numbers, or the order not n
 /// entries for the places, the ring and the labels, 8n words of rows and 2n entries of scratch.
 /// Turned down, it changes none of the lists. Costs the load and the order.
+// Five slices of memory, for the reason that stands at `order::order`.
 pub fn order_image(
     bytes: &[u8],
     memory: Vec<u16>,

@@ -14,6 +14,8 @@ pub trait Kind {
     /// The labels of the kind.
     type Label: Copy;
 
+    // Three members and not a record of the three: each kind defines them apart, and a record would
+    // be built anew in every clause over a kind.
     ghost blank: { Self → Self.Label };
 
     ghost raised: { Self → Self.Label → ℕ → Self.Label };

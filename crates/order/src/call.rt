@@ -14,6 +14,8 @@ use search::search;
 /// junctions of places 1 to n, the rows of its fill and, where it has fill, a ring of the plan.
 /// Needs n entries for the places, the ring and the labels, 8n words of rows and 2n entries of
 /// scratch, or it is turned down by 8 and changes nothing.
+// Five slices and no struct of them: a call that is lent two `&mut` fields of one struct gets no
+// proof from the borrow checker, and the memory is the caller's, so no `Vec` can hold it.
 pub fn order<P: ReadablePlan, K: Kind>(
     plan: &P,
     kind: &K,

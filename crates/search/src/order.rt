@@ -11,6 +11,9 @@ ghost use Rattle.search.specs.Working.{at, Chosen, RaisedBy};
 use label::Kind;
 use plan::{Junction, Place, ReadablePlan, Refusal, neighbours};
 
+// Places, labels and scratch are tables side by side, since the memory is handed over and stays as it
+// was behind what is used.
+
 /// Puts every junction at the place of its number, with an empty label.
 fn start<K: Kind>(
     kind: &K,

@@ -27,6 +27,7 @@ pub type LabelOfVisit = Either<MarkSet, Count>;
 /// Makes the calls of a sheet, line by line, and lets the listener hear each answer. Before a set
 /// exists only the line that makes one is a call, and afterwards it is none. A sheet of more than
 /// 16,384 bytes is turned down whole, by 8.
+// Five slices of memory, for the reason that stands at `order::order`.
 pub fn visit<M: Maker + Drop, L: Listener>(
     sheet: &[u8],
     maker: M,
