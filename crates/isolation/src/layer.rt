@@ -103,13 +103,7 @@ impl<R: Register> ReadablePlan for Isolation<R> {
         if !self.states.is_open(v) {
             return None;
         }
-        for u in neighbours_above(&self.below, v, w) {
-            let seen = self.states.is_open(u);
-            if seen {
-                return Some(u);
-            }
-        }
-        None
+        neighbours_above(&self.below, v, w).find(|u| self.states.is_open(*u))
     }
 }
 

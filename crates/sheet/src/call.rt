@@ -55,10 +55,9 @@ fn alone(rest: &[u8], call: Call) -> Option<Call>
 fn argument(rest: &[u8]) -> Option<(u16, &[u8])>
     ensures { Argument rest.now result }
 {
-    // A pattern with an `else`: the first byte is tested, and there is no `Option` to pass on.
-    let [b' ', ..] = rest else {
+    if !rest.starts_with(b" ") {
         return None;
-    };
+    }
     match read_field(rest, 1) {
         (Field::Number(text, _), end) => Some((number(text)?, end)),
         _ => None,
