@@ -8,8 +8,8 @@ use plan::{Junction, Place};
 /// The place of each junction in an order.
 #[derive(Drop)]
 pub(crate) struct PlaceTable {
-    // Entry v − 1 is the place of v, or 0 as long as v has none: a table of options would need the
-    // further fact that no place is 0.
+    // Entry v − 1 is the place of v, or 0 as long as v has none. A table of options would be no
+    // plainer: it would have to say besides that no place is 0.
     places: [u16; 512],
 }
 

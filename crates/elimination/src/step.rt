@@ -14,11 +14,10 @@ pub(crate) struct OrderedPlan<'a, P> {
     pub(crate) places: PlaceTable,
 }
 
-// That v is a junction of the plan is asked of each call: no type says it of a plan that is only
-// borrowed.
+// That v is a junction of the plan is asked of each call: a junction alone is a number, and a type that
+// ties it to the plan would be no plainer.
 impl<P: ReadablePlan> OrderedPlan<'_, P> {
-    // The lowest junction above w that is joined to v by a pipe or by the fill found so far. No
-    // iterator goes along them: while one junction takes over, the rows that it would hold change.
+    // The lowest junction above w that is joined to v by a pipe or by the fill found so far.
     fn next_known(&self, rows: &[u64], v: Junction, w: Junction) -> Option<Junction>
         requires { v.0 ≤ (P.meaning self.now.plan.now).size }
         ensures { NextIn (known (P.meaning self.now.plan.now) rows.now v.0) w.0 result }
@@ -35,6 +34,7 @@ impl<P: ReadablePlan> OrderedPlan<'_, P> {
         requires { v.0 ≤ (P.meaning self.now.plan.now).size }
         ensures { Earliest (known (P.meaning self.now.plan.now) rows.now) (at self.now.places.places) v.0 result }
     {
+        // By a cursor, as in `take_over`: an iterator for this loop alone would be no plainer.
         let mut best = None;
         let mut last = Junction(0);
         while let Some(u) = self.next_known(rows, v, last) {
@@ -69,6 +69,7 @@ impl<P: ReadablePlan> OrderedPlan<'_, P> {
         ensures rows { TakesOver (P.meaning self.now.plan.now) (at self.now.places.places) v.0 p.0 rows.old rows.new }
         ensures count { Adds (P.meaning self.now.plan.now) rows.old result rows.new }
     {
+        // By a cursor: the rows change on the way, so no iterator may hold them.
         let mut added = 0;
         let mut last = Junction(0);
         while let Some(u) = self.next_known(rows, v, last) {

@@ -43,6 +43,8 @@ impl Iterator for Chain<'_> {
     }
 }
 
+// That v is a junction of the image is asked of each call: a junction alone is a number, and a type
+// that ties it to the image would be no plainer.
 impl<'a> Layout<'a> {
     /// The record of index i, or `None` above the number of records.
     fn record(&self, i: NonZeroU16) -> Option<Record>

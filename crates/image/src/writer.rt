@@ -28,6 +28,7 @@ fn write_heads<P: ReadablePlan>(plan: &P, part: &mut [u8])
         // A junction without records has the head 0.
         let head = if found == 0 { 0 } else { before as u16 + 1 };
         let at = 2 * v.index();
+        // By index: of chunks that were lent a proof knows the length alone afterwards.
         put(&mut part[at..at + 2], head);
         before += found;
     }

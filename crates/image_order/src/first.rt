@@ -8,7 +8,8 @@ use std::convert::Infallible;
 /// Keeps the first answer that says more than that a call was carried out.
 #[derive(Drop)]
 pub(crate) struct First {
-    /// That answer, or `Outcome::Done` while there is none.
+    /// That answer, or `Outcome::Done` while there is none: what is then answered in the end, so an
+    /// `Option` would be no plainer.
     pub(crate) answer: Answer,
 }
 

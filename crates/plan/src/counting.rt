@@ -11,7 +11,7 @@ fn neighbours_below<P: ReadablePlan>(plan: &P, w: Junction) -> u32
     requires { (1 ≤ w.0) × (w.0 ≤ 512) }
     ensures { result ≡ count (λ v. (P.meaning plan.now).joins (suc v) w.0) (w.0 - 1) }
 {
-    // A loop: `count` of a chain is a usize, and what is added up here a u32.
+    // A loop: of `take_while` with `count` a proof would have to tell how many items are taken.
     let mut found = 0;
     for v in neighbours(plan, w) {
         if v > w {
@@ -26,7 +26,7 @@ fn neighbours_below<P: ReadablePlan>(plan: &P, w: Junction) -> u32
 pub fn pipes<P: ReadablePlan>(plan: &P) -> u32
     ensures { result ≡ pairs (P.meaning plan.now).joins (P.meaning plan.now).size }
 {
-    // A loop: the proof of `map` and `sum` over the range did not close.
+    // A loop: `map` and `sum` over the range were tried, and the proof did not close.
     let mut found = 0;
     for w in 1..=plan.size() {
         found += neighbours_below(plan, Junction(w));

@@ -2,7 +2,8 @@
 //!
 //! Scratch holds two stretches of n numbers: the queue of reached junctions in the order in which
 //! they were reached, and for each junction 0, or one more than the queue index of its forerunner,
-//! the first junction of the queue that is joined to it.
+//! the first junction of the queue that is joined to it. A mark is a number and no `Option`, since
+//! memory is handed over as numbers; that it is long enough is asked of each step, for the same reason.
 ghost use Rattle.std.specs.Prelude.{◌≡◌, ℕ, ◌+◌, ◌*◌, ◌<◌, ◌≤◌, true, length, ◌≢◌};
 ghost use Rattle.plan.specs.Memory.{KeptFrom};
 ghost use Rattle.ring.specs.Reach.{queue, mark, Queue, Spread};

@@ -29,7 +29,8 @@ fn start<K: Kind>(
     ensures labelled { (i : ℕ) (d : K.Label) → i < n → slice_index_or labels.new i d ≡ K.Kind.blank kind.now }
     ensures behind { KeptFrom n places.old places.new × KeptFrom n labels.old labels.new × KeptFrom n scratch.old scratch.new }
 {
-    // By index, since three tables are written at each.
+    // By index, since three tables are written at each; `fill` for the labels asks that a copy cannot
+    // fail, which a kind does not say.
     for i in 0..n {
         places[i] = Junction((i + 1) as u16);
         labels[i] = kind.empty();

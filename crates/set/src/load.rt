@@ -13,6 +13,7 @@ use plan::{Junction, ReadablePlan, Refusal, Register};
 fn is_clear<P: ReadablePlan>(plan: &P) -> bool
     ensures { result ≡ clear (P.ReadablePlan.meaning plan.now) }
 {
+    // A loop: `all` over the junctions was tried, and the proof did not close.
     for v in 1..plan.size() + 1 {
         if !plan.serves(Junction(v)) || plan.next(Junction(v), Junction(0)).is_some() {
             return false;

@@ -56,9 +56,9 @@ pub fn visit<M: Maker + Drop, L: Listener>(
     }
 }
 
-// Reads lines until one makes a set; every other is no call. Answers the set with the lines behind
-// its line, or `None` at the sheet's end. What is heard of the lines does not hang
-// on the memory for orders, whatever `tight` says of it.
+// Reads lines until one makes a set; every other is no call. Answers the set with the lines behind its
+// line, or `None` at the sheet's end. What is heard of the lines does not hang on the memory for
+// orders, whatever `tight` says of it.
 fn open_set<'a, M: Maker + Drop, L: Listener>(
     lines: Lines<'a>,
     maker: M,
@@ -69,6 +69,8 @@ fn open_set<'a, M: Maker + Drop, L: Listener>(
 {
     let mut maker = maker;
     let mut lines = lines;
+    // The lines behind go on with the set. A `for` over `&mut lines` was tried: the proof that it ends
+    // did not close.
     while let Some(line) = lines.next() {
         match new_set(line, maker) {
             Ok(set) => {
@@ -151,7 +153,8 @@ fn new_size(line: &[u8]) -> Option<u16>
     }
 }
 
-// The call on a set that a line spells; the line that makes a set is none.
+// The call on a set that a line spells; the line that makes a set is none. A sheet's calls are a type
+// of their own: they know of a new set, of no load, and of kinds of label by their letters.
 fn set_call(line: &[u8]) -> Option<Call<'_, KindOfLabel>>
     ensures { SetCall line.now result }
 {

@@ -11,6 +11,8 @@ impl BitRegister {
     pub fn new(n: u16, mut memory: Vec<u64>) -> Result<BitRegister, TurnedDown<Vec<u64>>>
         ensures { Making n memory result }
     {
+        // As in the other register but for the bounds: a shared check would take the memory in and
+        // hand it out again.
         if n == 0 || n > 512 {
             return Err(TurnedDown {
                 refusal: Refusal::Size,

@@ -15,6 +15,8 @@ impl ChainedRegister {
     ) -> Result<ChainedRegister, TurnedDown<Vec<u16>>>
         ensures { Making n c memory result }
     {
+        // As in the other register but for the bounds: a shared check would take the memory in and
+        // hand it out again.
         if n == 0 || n > 512 || c > 8000 {
             return Err(TurnedDown {
                 refusal: Refusal::Size,
