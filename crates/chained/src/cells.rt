@@ -13,6 +13,8 @@ pub(crate) struct Seat {
 
 // `cells` and `c` are handed along apart: between these steps the register's invariants do not hold,
 // and a struct of both would be made anew for each of its two calls.
+// Indices are cast by `as`: so each reads as the formula of the layout that it is (x + 2c), which
+// `usize::from` around each number would hide.
 
 /// Puts node x behind node s.
 fn link(cells: &mut [u16], s: u16, x: u16)

@@ -38,7 +38,7 @@ fn read_header(bytes: &[u8]) -> Result<Layout<'_>, Refusal>
     if n == 0 || n > MOST_JUNCTIONS || records > MOST_RECORDS || edition != EDITION || zero != 0 {
         return Err(Refusal::ImageHeader);
     }
-    if rest.len() != 2 * n as usize + 6 * records as usize {
+    if rest.len() != 2 * usize::from(n) + 6 * usize::from(records) {
         return Err(Refusal::ImageLength);
     }
     Ok(Layout {

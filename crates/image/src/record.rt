@@ -37,5 +37,5 @@ impl Record {
 pub(crate) fn record_start(n: u16, i: NonZeroU16) -> usize
     ensures { result ≡ record_at n (non_zero_u16_get i) }
 {
-    8 + 2 * n as usize + 6 * (i.get() as usize - 1)
+    8 + 2 * usize::from(n) + 6 * (usize::from(i.get()) - 1)
 }

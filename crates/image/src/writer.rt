@@ -78,10 +78,10 @@ pub fn write<P: ReadablePlan>(plan: &P, out: &mut [u8]) -> Result<usize, Refusal
 {
     let n = plan.size();
     let records = pipes(plan) as usize;
-    if records > MOST_RECORDS as usize {
+    if records > usize::from(MOST_RECORDS) {
         return Err(Refusal::TooManyPipes);
     }
-    let first = 8 + 2 * n as usize;
+    let first = 8 + 2 * usize::from(n);
     let long = first + 6 * records;
     if out.len() < long {
         return Err(Refusal::ShortMemory);

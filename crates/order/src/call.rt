@@ -28,7 +28,7 @@ pub fn order<P: ReadablePlan, K: Kind>(
     ensures verdict { heard result ≡ checked ((short (P.ReadablePlan.meaning plan.now).size places.old ring.old rows.old labels.old scratch.old, 8) ∷ []) }
     ensures left { OrderCall (K.Kind.blank kind.now) (K.Kind.raised kind.now) (K.Kind.compared kind.now) (P.ReadablePlan.meaning plan.now) result places.old ring.old rows.old labels.old scratch.old places.new ring.new rows.new labels.new scratch.new }
 {
-    let n = plan.size() as usize;
+    let n = usize::from(plan.size());
     if places.len() < n || ring.len() < n || rows.len() < 8 * n {
         return Err(Refusal::ShortMemory);
     }

@@ -19,7 +19,7 @@ fn main(rt: HostRuntime) -> io::Result<()> {
     let heap = rt.alloc();
     // One byte more than an image can have, so that a longer input is refused for its length.
     let bytes = read_input(&rt, IMAGE_LIMIT as u64 + 1)?;
-    let memory = filled(heap, 0, 512 + 4 * PIPES as usize)?;
+    let memory = filled(heap, 0, 512 + 4 * usize::from(PIPES))?;
     let mut places = filled(heap, Junction(0), 512)?;
     let mut ring = filled(heap, Junction(0), 512)?;
     let mut rows = filled(heap, 0, 8 * 512)?;

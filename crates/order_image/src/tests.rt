@@ -21,7 +21,7 @@ fn orders_the_ring(rt: HostRuntime) -> Result<(), Fail> {
         &rt,
         rt.alloc(),
         RING,
-        4 + 4 * PIPES as usize,
+        4 + 4 * usize::from(PIPES),
         4,
         "order 3 4 2 1\nfill 1 cells 5\nring 1 2 3 4\n",
     )
@@ -33,7 +33,7 @@ fn orders_a_plan_without_pipes(rt: HostRuntime) -> Result<(), Fail> {
         &rt,
         rt.alloc(),
         NO_PIPE,
-        3 + 4 * PIPES as usize,
+        3 + 4 * usize::from(PIPES),
         4,
         "order 3 2 1\nfill 0 cells 0\nring none\n",
     )
@@ -42,7 +42,7 @@ fn orders_a_plan_without_pipes(rt: HostRuntime) -> Result<(), Fail> {
 #[test]
 fn turns_down(rt: HostRuntime) -> Result<(), Fail> {
     let heap = rt.alloc();
-    let long = 4 + 4 * PIPES as usize;
+    let long = 4 + 4 * usize::from(PIPES);
     let mut bytes = [0; 41];
     bytes[0..40].copy_from_slice(RING);
     // A byte behind the image.

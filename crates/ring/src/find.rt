@@ -20,7 +20,7 @@ pub fn find_ring<P: ReadablePlan>(
     ensures left { FindRing (P.meaning plan.now) result ring.old scratch.old ring.new scratch.new }
 {
     let n = plan.size();
-    if ring.len() < n as usize || scratch.len() < 2 * n as usize {
+    if ring.len() < usize::from(n) || scratch.len() < 2 * usize::from(n) {
         return Err(Refusal::ShortMemory);
     }
     let mut found = None;

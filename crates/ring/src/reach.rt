@@ -24,7 +24,7 @@ pub(crate) fn reach<P: ReadablePlan>(
     ensures spread { Spread (P.meaning plan.now) v.0 result (queue scratch.new) (mark (P.meaning plan.now).size scratch.new) }
     ensures behind { KeptFrom (2 * (P.meaning plan.now).size) scratch.old scratch.new }
 {
-    let n = plan.size() as usize;
+    let n = usize::from(plan.size());
     start(n, a, scratch);
     // By index, since the queue grows while it is read.
     let mut size = 1;
@@ -67,7 +67,7 @@ fn spread<P: ReadablePlan>(
     ensures spread { Spread (P.meaning plan.now) v.0 (head + 1) (queue scratch.new) (mark (P.meaning plan.now).size scratch.new) }
     ensures behind { KeptFrom (2 * (P.meaning plan.now).size) scratch.old scratch.new }
 {
-    let n = plan.size() as usize;
+    let n = usize::from(plan.size());
     let u = Junction(scratch[head]);
     let mut count = size;
     for w in neighbours_above(plan, u, v) {

@@ -54,9 +54,9 @@ impl<P: ReadablePlan> Reached<'_, P> {
         requires { at < self.now.size }
         ensures { result ≡ mark (P.meaning self.now.plan.now).size self.now.scratch.now (queue self.now.scratch.now at) - 1 }
     {
-        let n = self.plan.size() as usize;
+        let n = usize::from(self.plan.size());
         let w = Junction(self.scratch[at]);
-        self.scratch[n + w.index()] as usize - 1
+        usize::from(self.scratch[n + w.index()]) - 1
     }
 
     // How many pipes the path has, along the forerunners, from index `top` of the queue to its

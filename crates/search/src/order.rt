@@ -115,7 +115,7 @@ pub fn search<P: ReadablePlan, K: Kind>(
     ensures verdict { heard result ≡ checked ((short (P.ReadablePlan.meaning plan.now).size places.old labels.old scratch.old, 8) ∷ []) }
     ensures left { Leaves (K.Kind.blank kind.now) (K.Kind.raised kind.now) (K.Kind.compared kind.now) (P.ReadablePlan.meaning plan.now) places.old labels.old scratch.old (heard result) places.new labels.new scratch.new }
 {
-    let n = plan.size() as usize;
+    let n = usize::from(plan.size());
     if places.len() < n || labels.len() < n || scratch.len() < 2 * n {
         return Err(Refusal::ShortMemory);
     }

@@ -39,7 +39,7 @@ impl<R: Register> Set<R> {
         if !is_clear(&self.layer) {
             return Err(Refusal::NotNew);
         }
-        if self.layer.spare() < header.records as u32 {
+        if self.layer.spare() < u32::from(header.records) {
             return Err(Refusal::NoSpare);
         }
         for i in 1..header.records + 1 {

@@ -43,7 +43,7 @@ impl Maker for ChainedMaker {
 // 512 junctions the maker holds none, and every set is turned down.
 fn main(rt: HostRuntime) -> io::Result<()> {
     let maker = ChainedMaker {
-        memory: filled_or_empty(rt.alloc(), 0, 512 + 4 * PIPES as usize),
+        memory: filled_or_empty(rt.alloc(), 0, 512 + 4 * usize::from(PIPES)),
     };
     print_visit(&rt, maker)
 }

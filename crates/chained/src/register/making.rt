@@ -23,7 +23,7 @@ impl ChainedRegister {
                 memory,
             });
         }
-        if memory.len() < n as usize + 4 * c as usize {
+        if memory.len() < usize::from(n) + 4 * usize::from(c) {
             return Err(TurnedDown {
                 refusal: Refusal::ShortMemory,
                 memory,

@@ -24,6 +24,7 @@ impl ChainedRegister {
         ensures { SeatIn self.now v.0 w result }
     {
         // Chains are numbers in the memory handed over, so 0 ends one and no reference leads on.
+        // Indices are cast by `as` here and below, so that each reads as the formula of the layout.
         let cells = self.cells.as_slice();
         let ends = 2 * self.c as usize;
         let mut node = v.0 - 1;

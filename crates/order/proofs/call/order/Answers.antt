@@ -23,15 +23,15 @@ found g c = c.in_ok-search.ensures.left.0
 pub returns-in_err-fill : goal.returns-in_err-fill
 returns-in_err-fill g c =
     let p : Plan = g.P.ReadablePlan.meaning c.args.plan.now in
-    let e : c.size-n.result ≡ p.size = c.size-n.ensures.value in
-    let us = part_numbers c.search.new.places c.size-n.result p.size e in
+    let e : c.from-n.result ≡ p.size = c.from-n.ensures ∙ c.size.ensures.value in
+    let us = part_numbers c.search.new.places c.from-n.result p.size e in
     absurd (carried≢refused _ _ (c.in_err-fill.ensures.answer ∙ ap (λ (xs : List ℕ). fill_verdict p.size xs (length c.args.rows.now)) us ∙ fill_carried p.size _ _ (found g (goal.at.returns-in_err-fill g c).In_ok-search).order (omega (arith, c.if-rows-n.false, e))))
 
 -- the fill that was worked out is that of the order found
 filled : (g : given.Over) (c : In_ok-fill g) → Fills (g.P.ReadablePlan.meaning c.args.plan.now) (take (g.P.ReadablePlan.meaning c.args.plan.now).size (numbers c.search.new.places)) c.args.rows.now c.in_ok-fill.fill c.fill.new.rows
 filled g c =
     let p : Plan = g.P.ReadablePlan.meaning c.args.plan.now in
-    subst (λ (xs : List ℕ). Fills p xs c.args.rows.now c.in_ok-fill.fill c.fill.new.rows) (part_numbers c.search.new.places c.size-n.result p.size c.size-n.ensures.value) c.in_ok-fill.ensures.written
+    subst (λ (xs : List ℕ). Fills p xs c.args.rows.now c.in_ok-fill.fill c.fill.new.rows) (part_numbers c.search.new.places c.from-n.result p.size (c.from-n.ensures ∙ c.size.ensures.value)) c.in_ok-fill.ensures.written
 
 pub overflow_add-cells : goal.overflow_add-cells
 overflow_add-cells g c =
@@ -71,7 +71,7 @@ unfolding cells
 returns g c =
     let p : Plan = g.P.ReadablePlan.meaning c.args.plan.now in
     let sound : Sound p = g.met.P.ReadablePlan.sound c.args.plan.now in
-    let e : c.size-n.result ≡ p.size = c.size-n.ensures.value in
+    let e : c.from-n.result ≡ p.size = c.from-n.ensures ∙ c.size.ensures.value in
     let s = found g (goal.at.returns g c).In_ok-search in
     let l = late g (goal.at.returns g c).In_ok-search in
     let f = filled g (goal.at.returns g c).In_ok-fill in

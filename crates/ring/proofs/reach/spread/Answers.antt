@@ -1,4 +1,4 @@
-use Rattle.std.proofs.Common.{◌≡◌, ◌≤◌, ◌-◌, Some, sym, arith}
+use Rattle.std.proofs.Common.{◌≡◌, ◌∙◌, ◌≤◌, ◌-◌, Some, sym, arith}
 use Rattle.std.proofs.lemmas.List.{length-set}
 use Rattle.plan.specs.Plans.{Plan, NextNeighbour}
 use Rattle.plan.proofs.Walks.{goes_along, meets_next}
@@ -25,7 +25,7 @@ bounds-scratch-seat-then-not-joined g c =
 pub loop-w-preserved-then-not-joined : goal.loop-w-preserved-then-not-joined
 loop-w-preserved-then-not-joined g c =
     let p : Plan = g.P.ReadablePlan.meaning c.args.plan.now in
-    let e : c.size-n.result ≡ p.size = c.size-n.ensures.value in
+    let e : c.from-n.result ≡ p.size = c.from-n.ensures ∙ c.size.ensures.value in
     let i : c.index.result ≡ c.in-Some.w.0 - 1 = c.index.ensures in
     let s = c.in-Some.ensures.steps in
     let m = next g (goal.at.loop-w-preserved-then-not-joined g c).In-Some in (

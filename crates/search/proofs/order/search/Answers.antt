@@ -1,4 +1,4 @@
-use Rattle.std.proofs.Common.{◌≡◌, ℕ, suc, ◌-◌, ◌*◌, ◌≤◌, length, subst, arith, rules}
+use Rattle.std.proofs.Common.{◌≡◌, ◌∙◌, ℕ, suc, ◌-◌, ◌*◌, ◌≤◌, length, subst, arith, rules}
 use Rattle.plan.specs.Plans.{Plan}
 use Rattle.plan.specs.Memory.{KeptFrom}
 use Rattle.search.proofs.Filling.{kept_trans}
@@ -27,7 +27,7 @@ returns g c =
     let k = c.args.kind.now in
     let p : Plan = g.P.ReadablePlan.meaning c.args.plan.now in
     let none : c.loop-p.p ≡ 0 = omega arith in
-    let size : c.size-n.result ≡ p.size = c.size-n.ensures.value in
+    let size : c.from-n.result ≡ p.size = c.from-n.ensures ∙ c.size.ensures.value in
     let going : Going (g.K.Kind.blank k) (g.K.Kind.raised k) (g.K.Kind.compared k) p c.loop-p.places c.loop-p.labels c.loop-p.scratch 0 = subst (λ (m : ℕ). Going (g.K.Kind.blank k) (g.K.Kind.raised k) (g.K.Kind.compared k) p c.loop-p.places c.loop-p.labels c.loop-p.scratch m) none c.loop-p.invariant.0 in
     record {
       verdict = search rules;

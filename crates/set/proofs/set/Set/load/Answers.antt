@@ -16,13 +16,13 @@ returns-then-not-is_clear g c =
     let n : (image_of c.args.image.now).size ≡ l.base.size = omega (arith, c.in_ok-header.ensures.header.size, c.if-header-size.false, c.size.ensures.value) in
     record { answer = sym (load_not_new l c.args.image.now (sym c.in_ok-header.ensures.says) n h); ledger = refl }
 
-pub returns-then-spare-header : goal.returns-then-spare-header
-returns-then-spare-header g c =
+pub returns-then-spare-from : goal.returns-then-spare-from
+returns-then-spare-from g c =
     let l : Ledger = ledger g.R.ReadablePlan.meaning g.R.Register.left c.args.self.now in
     let h : clear (seen l) ≡ true = ap clear (seen-through l.base l.spare (opens c.args.self.now.layer.states.table)) ∙ sym c.if-not-is_clear.ensures in
     let n : (image_of c.args.image.now).size ≡ l.base.size = omega (arith, c.in_ok-header.ensures.header.size, c.if-header-size.false, c.size.ensures.value) in
     record {
-      answer = sym (load_no_spare l c.args.image.now (sym c.in_ok-header.ensures.says) n h (omega (arith, c.spare.ensures, c.if-spare-header.true, c.in_ok-header.ensures.header.records)));
+      answer = sym (load_no_spare l c.args.image.now (sym c.in_ok-header.ensures.says) n h (omega (arith, c.spare.ensures, c.if-spare-from.true, c.in_ok-header.ensures.header.records)));
       ledger = refl;
     }
 
@@ -34,7 +34,7 @@ loop-i-preserved g c =
     let l : Ledger = ledger g.R.ReadablePlan.meaning g.R.Register.left c.args.self.now in
     let h : clear (seen l) ≡ true = ap clear (seen-through l.base l.spare (opens c.args.self.now.layer.states.table)) ∙ sym c.if-not-is_clear.ensures in
     let n : (image_of c.args.image.now).size ≡ l.base.size = omega (arith, c.in_ok-header.ensures.header.size, c.if-header-size.false, c.size.ensures.value) in
-    let ok : Loadable l c.args.image.now = record { sound = sym c.in_ok-header.ensures.says; size = n; new = h; room = omega (arith, c.spare.ensures, c.if-spare-header.false, c.in_ok-header.ensures.header.records) } in
+    let ok : Loadable l c.args.image.now = record { sound = sym c.in_ok-header.ensures.says; size = n; new = h; room = omega (arith, c.spare.ensures, c.if-spare-from.false, c.in_ok-header.ensures.header.records) } in
     let some : 1 ≤ c.loop-i.i = c.loop-i.auto.i in
     let most : c.loop-i.i ≤ (image_of c.args.image.now).records = omega (arith, c.loop-i-test.true, c.in_ok-header.ensures.header.records) in
     elim c.match-record_ends.branch [
@@ -47,6 +47,6 @@ returns g c =
     let l : Ledger = ledger g.R.ReadablePlan.meaning g.R.Register.left c.args.self.now in
     let h : clear (seen l) ≡ true = ap clear (seen-through l.base l.spare (opens c.args.self.now.layer.states.table)) ∙ sym c.if-not-is_clear.ensures in
     let n : (image_of c.args.image.now).size ≡ l.base.size = omega (arith, c.in_ok-header.ensures.header.size, c.if-header-size.false, c.size.ensures.value) in
-    let ok : Loadable l c.args.image.now = record { sound = sym c.in_ok-header.ensures.says; size = n; new = h; room = omega (arith, c.spare.ensures, c.if-spare-header.false, c.in_ok-header.ensures.header.records) } in
+    let ok : Loadable l c.args.image.now = record { sound = sym c.in_ok-header.ensures.says; size = n; new = h; room = omega (arith, c.spare.ensures, c.if-spare-from.false, c.in_ok-header.ensures.header.records) } in
     let end : c.loop-i.i - 1 ≡ (image_of c.args.image.now).records = omega (arith, c.loop-i-test.false, c.loop-i.auto.i-end, c.in_ok-header.ensures.header.records) in
     record { answer = sym (load_passes l c.args.image.now ok); ledger = c.loop-i.invariant ∙ ap (with_records l (image_of c.args.image.now)) end }
