@@ -1,6 +1,6 @@
 #!/bin/bash
 # Counts, in the crates below the folder given (here by default), the places that
-# docs/DESIGN-PASS.md tells of: `bash tools/places.sh [FOLDER] [-v]`. With -v each place is shown.
+# docs/DESIGN-PASS.md tells of: `bash tools/places.sh [FOLDER [-v]]`. With -v each place is shown.
 cd "${1:-.}" || exit 1
 show=${2:-}
 src() { find crates -path '*/src/*' -name '*.rt' ! -path '*/out/*' ! -path '*/target/*' "$@" | sort; }
@@ -28,6 +28,7 @@ count '3b a for over a range' g "^\s*('\w+: )?for \w+ in .*\.\."
 count '4a a number taken out to be shown' g 'let \w+ = \w+(\.\w+)*\.(0|code\(\));'
 count '4b an Ordering built by hand' g 'Ordering::(Less|Greater)$|Ordering::(Less|Greater);|Ordering::(Less|Greater) => (true|false)'
 count '4c two bytes put together or taken apart' g '256 \* high as|[%/] 256\)'
+count '4d a cast that loses nothing' g ' as (usize|u32|u64)\b'
 count '5a a clause of a layout of bytes' g 'requires( laid)? \{ Laid '
 count '5b a clause of a queue' g 'requires( queue)? \{ Queue '
 count '8a answer files' proofs Answers.antt

@@ -15,6 +15,7 @@ use plan::Junction;
 use set::Set;
 
 /// The number of pipes that the register is made for: as many as an image can have.
+// A number of its own: `image` keeps its bound to itself, since its header is checked against it.
 pub const PIPES: u16 = 8000;
 
 /// Loads an image into a new set of its n, over a chained register of 8,000 pipes in the memory

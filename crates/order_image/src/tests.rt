@@ -8,7 +8,7 @@ use std::process::Abort;
 use std::test::Fail;
 use visit::Listing;
 
-/// The ring of four junctions.
+/// The ring of four junctions; here again, since the tests of a crate are seen by no other.
 const RING: &[u8; 40] =
     b"\x04\0\x04\0\x01\0\0\0\x01\0\x03\0\x04\0\0\0\x01\0\x02\0\x02\0\x01\0\x04\0\0\0\x02\0\x03\0\0\0\x03\0\x04\0\0\0";
 

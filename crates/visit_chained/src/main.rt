@@ -13,7 +13,8 @@ use printer::print_visit;
 use std::io;
 use visit::Maker;
 
-// The most pipes that the register of a visit takes.
+// The most pipes that the register of a visit takes. `image_order` has this number too, of its own:
+// to share it, a program would depend on a crate that it needs for nothing else.
 const PIPES: u16 = 8000;
 
 // Makes a chained register of 8,000 pipes in the memory that it holds.
