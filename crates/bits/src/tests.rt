@@ -45,6 +45,10 @@ fn turns_down(rt: HostRuntime) -> Result<(), Fail> {
         register.join(Junction(2), Junction(1)),
         Err(Refusal::JoinedAlready)
     );
+    assert_eq!(rt; Refusal::NoJunction.code(), 2);
+    assert_eq!(rt; Refusal::OneJunction.code(), 3);
+    assert_eq!(rt; Refusal::NotJoined.code(), 13);
+    assert_eq!(rt; Refusal::JoinedAlready.code(), 12);
     Ok(())
 }
 
@@ -54,6 +58,7 @@ fn gives_memory_back(rt: HostRuntime) -> Result<(), Fail> {
         return Err(Fail::new("made"));
     };
     assert_eq!(rt; turned.refusal, Refusal::ShortMemory);
+    assert_eq!(rt; turned.refusal.code(), 8);
     assert_eq!(rt; turned.memory.len(), 23);
     assert_eq!(rt; turned.memory[0], 7);
     Ok(())

@@ -46,6 +46,7 @@ fn first_filled(words: &[u64]) -> Option<usize>
 }
 
 /// The least number from `from` on that is in the set; `None` where there is none.
+#[inline(always)]
 pub fn next(words: &[u64], from: usize) -> Option<usize>
     ensures { NextHeld words.now from result }
 {

@@ -61,6 +61,8 @@ fn gives_memory_back(rt: HostRuntime) -> Result<(), Fail> {
         return Err(Fail::new("made"));
     };
     assert_eq!(rt; turned.refusal, Refusal::ShortMemory);
+    assert_eq!(rt; turned.refusal.code(), 8);
+    assert_eq!(rt; Refusal::NoSpare.code(), 14);
     assert_eq!(rt; turned.memory.len(), 22);
     assert_eq!(rt; turned.memory[0], 7);
     Ok(())

@@ -1,9 +1,9 @@
 -- The neighbours of a junction by pipes and by marks, in the order of their numbers, and the earliest placed of them.
-use Rattle.std.proofs.Common.{◌≡◌, ℕ, ◌*◌, ◌<◌, ◌≤◌, Bool, true, false, ◌&&◌, ◌||◌, leb, ◌⊎◌, List, length, MatchBool, Some, None, Option, sym, refl, ◌∙◌, inl, inr, rules, arith}
+use Rattle.std.proofs.Common.{◌≡◌, ℕ, ◌-◌, ◌*◌, ◌<◌, ◌≤◌, Bool, true, false, ◌&&◌, ◌||◌, leb, ◌⊎◌, List, length, MatchBool, Some, None, Option, sym, refl, ◌∙◌, inl, inr, rules, arith}
 use Rattle.std.specs.Ordering.{nat_cmp, is_lt, ord_min}
-use Rattle.std.proofs.lemmas.Bool.{cases_Bool, or_cases, or_left, or_right, or_from}
+use Rattle.std.proofs.lemmas.Bool.{cases_Bool, cases_lt, both_ways, or_cases, or_left, or_right, or_from}
 use Rattle.std.proofs.lemmas.Bool.Decides.{nat_tests}
-use Rattle.plan.specs.Plans.{Plan, Sound}
+use Rattle.plan.specs.Plans.{Plan, Sound, NextNeighbour}
 use Rattle.plan.specs.Registers.{same_pair}
 use Rattle.plan.specs.declared.number.Junction.{Junction}
 use Rattle.elimination.specs.Steps.{found, known, Joins}
@@ -57,6 +57,15 @@ module _ (t s k : ℕ → Bool) (is : (x : ℕ) → k x ≡ (t x || s x)) (w : �
 
 pub known_is : (q : Plan) (rows : List ℕ) (v : ℕ) → v ≤ q.size → (x : ℕ) → known q rows v x ≡ (q.joins v x || marked rows v x)
 known_is q rows v h x = rw (found-marked q.size rows v x h) refl
+
+-- the lowest neighbour by a pipe above w is the lowest from u on, where u is the lowest neighbour above w
+pub pipe_from : (q : Plan) (rows : List ℕ) (v w : ℕ) (u : Junction) (pipe : Option Junction) → v ≤ q.size → NextIn (known q rows v) w (Some u) → NextNeighbour q v w pipe → NextNeighbour q v (u.0 - 1) pipe
+pipe_from q rows v w u None h k none = λ x l. none x (omega (arith, k.0))
+pipe_from q rows v w u (Some a) h k next = (above (cases_lt a.0 u.0), next.1, λ x l m. next.2 x (omega (arith, k.0)) m)
+  where
+    above : (a.0 < u.0) ⊎ (u.0 ≤ a.0) → u.0 - 1 < a.0
+    above (inl l) = absurd (both_ways (known q rows v a.0) (k.2 a.0 next.0 l) (known_is q rows v h a.0 ∙ or_left (q.joins v a.0) (marked rows v a.0) next.1))
+    above (inr l) = omega (arith, k.0)
 
 -- the earliest of v's neighbours at later places, of those up to number k
 abbrev pub EarliestTo : (ℕ → ℕ → Bool) → (ℕ → ℕ) → ℕ → ℕ → Option Junction → Type 0

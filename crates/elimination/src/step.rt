@@ -1,6 +1,7 @@
 //! One step of the elimination: of a junction's neighbours at later places the earliest takes
 //! over the others. The fill that this leaves out comes when that neighbour is eliminated.
-ghost use Rattle.std.specs.Prelude.{◌≡◌, ◌*◌, ◌<◌, ◌≤◌, length};
+ghost use Rattle.std.specs.Prelude.{◌≡◌, ◌-◌, ◌*◌, ◌<◌, ◌≤◌, length};
+ghost use Rattle.plan.specs.Plans.{NextNeighbour};
 ghost use Rattle.pairs.specs.Rows.{NextIn};
 ghost use Rattle.elimination.specs.Steps.{known, at, Table, Earliest, Joins, Adds, TakesOver, Eliminates};
 
@@ -17,16 +18,37 @@ pub(crate) struct OrderedPlan<'a, P> {
 // That v is a junction of the plan is asked of each call: a junction alone is a number, and a type that
 // ties it to the plan would be no plainer.
 impl<P: ReadablePlan> OrderedPlan<'_, P> {
-    // The lowest junction above w that is joined to v by a pipe or by the fill found so far.
-    fn next_known(&self, rows: &[u64], v: Junction, w: Junction) -> Option<Junction>
-        requires { v.0 ≤ (P.meaning self.now.plan.now).size }
+    // The lowest junction above w that is joined to v by a pipe or by the fill found so far, where
+    // `pipe` is the lowest that is by a pipe.
+    #[inline(always)]
+    fn next_known(
+        &self,
+        rows: &[u64],
+        v: Junction,
+        w: Junction,
+        pipe: Option<Junction>,
+    ) -> Option<Junction>
+        requires inside { v.0 ≤ (P.meaning self.now.plan.now).size }
+        requires pipe { NextNeighbour (P.meaning self.now.plan.now) v.0 w.0 pipe }
         ensures { NextIn (known (P.meaning self.now.plan.now) rows.now v.0) w.0 result }
     {
-        match (self.plan.next(v, w), pairs::next_marked(rows, v, w)) {
+        match (pipe, pairs::next_marked(rows, v, w)) {
             (Some(a), Some(b)) => Some(a.min(b)),
             (Some(a), None) => Some(a),
             (None, b) => b,
         }
+    }
+
+    // The lowest junction above u that is joined to v by a pipe, where `pipe` is the lowest from u on.
+    // So a walk asks the plan once for each pipe, however much fill lies between.
+    fn pipe_above(&self, v: Junction, u: Junction, pipe: Option<Junction>) -> Option<Junction>
+        requires { NextNeighbour (P.meaning self.now.plan.now) v.0 (u.0 - 1) pipe }
+        ensures { NextNeighbour (P.meaning self.now.plan.now) v.0 u.0 result }
+    {
+        if pipe == Some(u) {
+            return self.plan.next(v, u);
+        }
+        pipe
     }
 
     // The earliest placed of v's neighbours at later places.
@@ -37,10 +59,12 @@ impl<P: ReadablePlan> OrderedPlan<'_, P> {
         // By a cursor, as in `take_over`: an iterator for this loop alone would be no plainer.
         let mut best = None;
         let mut last = Junction(0);
-        while let Some(u) = self.next_known(rows, v, last) {
+        let mut pipe = self.plan.next(v, last);
+        while let Some(u) = self.next_known(rows, v, last, pipe) {
             if self.places.place_of(v) < self.places.place_of(u) {
                 best = Some(self.places.earlier(best, u));
             }
+            pipe = self.pipe_above(v, u, pipe);
             last = u;
         }
         best
@@ -72,13 +96,15 @@ impl<P: ReadablePlan> OrderedPlan<'_, P> {
         // By a cursor: the rows change on the way, so no iterator may hold them.
         let mut added = 0;
         let mut last = Junction(0);
-        while let Some(u) = self.next_known(rows, v, last) {
+        let mut pipe = self.plan.next(v, last);
+        while let Some(u) = self.next_known(rows, v, last, pipe) {
             if self.places.place_of(v) < self.places.place_of(u)
                 && u != p
                 && self.join(rows, p, u)
             {
                 added += 1;
             }
+            pipe = self.pipe_above(v, u, pipe);
             last = u;
         }
         added

@@ -57,6 +57,8 @@ fn turns_down_what_is_no_order_before_short_memory(rt: HostRuntime) {
     assert_eq!(rt; fill(&Ring, &twice, &mut rows), Err(Refusal::NoOrder));
     let order = [Junction(3), Junction(4), Junction(2), Junction(1)];
     assert_eq!(rt; fill(&Ring, &order, &mut rows), Err(Refusal::ShortMemory));
+    assert_eq!(rt; Refusal::NoOrder.code(), 9);
+    assert_eq!(rt; Refusal::ShortMemory.code(), 8);
     assert_eq!(rt; rows[0], 7);
 }
 

@@ -6,6 +6,7 @@ pub mod Rising
 pub mod RoundTrips
 pub mod Seeks
 pub mod SoundImages
+pub mod SoundWalks
 pub mod Stretches
 pub mod UpperWalks
 pub mod Uppers

@@ -4,6 +4,7 @@ use Rattle.std.proofs.Math.Path.{refl, ap}
 use Rattle.std.proofs.Common.{sym, ◌∙◌, inl, inr}
 use native.Mathlib.Omega.{arith}
 use Rattle.std.proofs.lemmas.Bool.{cases_lt, cases_Bool, and_from, and_left, lt-ltb, le-ltb}
+use Rattle.std.proofs.lemmas.Nat.{mul-le}
 use Rattle.plan.specs.Plans.{Plan, count, pairs}
 use Rattle.plan.proofs.Counts.{count-le, count_none, count_flat}
 use Rattle.image.specs.Writing.{upper, uppers, pipes_to, link}
@@ -123,6 +124,9 @@ module _ (p : Plan) where
   unfolding pipes_to
   pipes_to_most zero = omega arith
   pipes_to_most (suc v) = omega (arith, pipes_to_most v, uppers_most (suc v) p.size)
+
+  pub pipes_to_few : (v : ℕ) → p.size ≤ 512 → v ≤ p.size → pipes_to p v ≤ 262656
+  pipes_to_few v few l = omega (arith, pipes_to_most v, mul-le (suc p.size) v 513 512 (omega arith) (omega arith))
 
   pub link_some : (v w : ℕ) → uppers p v w < uppers p v p.size → link p v w ≡ suc (pipes_to p (v - 1) + uppers p v w)
   unfolding link

@@ -9,6 +9,7 @@ pub mod Worked
 pub mod Writing
 pub mod CheckedPlans
 pub mod RangesLemmas
+pub mod SoundSteps
 pub mod Sounds
 pub mod Headers
 pub mod Tallies

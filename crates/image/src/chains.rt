@@ -6,12 +6,14 @@ ghost use Rattle.plan.specs.Plans.{NextNeighbour, within};
 ghost use Rattle.plan.specs.Refusals.{heard};
 ghost use Rattle.image.specs.Chains.{plan_of};
 ghost use Rattle.image.specs.Images.{image_of};
-ghost use Rattle.image.specs.Records.{index_field, RecordOf, FollowerOf, ChainSteps, steps_left};
+ghost use Rattle.image.specs.Records.{index_field, Reads, RecordOf, FollowerOf, ChainSteps, steps_left};
+ghost use Rattle.image.specs.SoundSteps.{SoundSteps, ends_left};
 ghost use Rattle.image.specs.Reading.{Walked, chains_verdict, is_sound};
 
 use crate::fields::read;
 use crate::layout::Layout;
 use crate::record::{Record, record_start};
+use crate::sound_chain::SoundChain;
 use plan::{Junction, Refusal};
 use std::num::NonZeroU16;
 
@@ -43,9 +45,31 @@ impl Iterator for Chain<'_> {
     }
 }
 
+impl Iterator for SoundChain<'_> {
+    type Item = Junction;
+
+    ghost next_gives = { SoundSteps };
+
+    ghost remaining = { λ s. at_most (ends_left (image_of s.image.bytes.now) (index_field s.at)) };
+
+    fn next(&mut self) -> Option<Junction> {
+        let found = self.image.known_record(self.at?);
+        self.at = found.next;
+        Some(found.far)
+    }
+}
+
 // That v is a junction of the image is asked of each call: a junction alone is a number, and a type
 // that ties it to the image would be no plainer.
 impl<'a> Layout<'a> {
+    /// The record of index i, which is one of the records.
+    fn known_record(&self, i: NonZeroU16) -> Record
+        requires { non_zero_u16_get i ≤ (image_of self.now.bytes.now).records }
+        ensures { Reads (image_of self.now.bytes.now) (non_zero_u16_get i) result }
+    {
+        Record::read(self.bytes, record_start(self.header.n, i))
+    }
+
     /// The record of index i, or `None` above the number of records.
     fn record(&self, i: NonZeroU16) -> Option<Record>
         ensures { RecordOf (image_of self.now.bytes.now) (non_zero_u16_get i) result }
@@ -53,7 +77,7 @@ impl<'a> Layout<'a> {
         if i.get() > self.header.records {
             return None;
         }
-        Some(Record::read(self.bytes, record_start(self.header.n, i)))
+        Some(self.known_record(i))
     }
 
     /// The record of index i, where it may follow a far end `low` in the chain of v.
@@ -65,6 +89,14 @@ impl<'a> Layout<'a> {
             return None;
         }
         Some(found)
+    }
+
+    /// The index of the first record in the chain of v, if any.
+    fn head(&self, v: Junction) -> Option<NonZeroU16>
+        requires { within self.now.header.n v.0 ≡ true }
+        ensures { index_field result ≡ (image_of self.now.bytes.now).head v.0 }
+    {
+        NonZeroU16::new(read(self.bytes, 8 + 2 * v.index()))
     }
 
     /// The chain of v, from its first record on.
@@ -79,7 +111,20 @@ impl<'a> Layout<'a> {
             image: *self,
             of: v,
             low: v,
-            at: NonZeroU16::new(read(self.bytes, 8 + 2 * v.index())),
+            at: self.head(v),
+        }
+    }
+
+    /// The chain of v in a sound image, from its first record on.
+    fn sound_chain(&self, v: Junction) -> SoundChain<'a>
+        requires sound { is_sound self.now.bytes.now ≡ true }
+        requires inside { within self.now.header.n v.0 ≡ true }
+        ensures image { result.image ≡ self.now }
+        ensures at { index_field result.at ≡ (image_of self.now.bytes.now).head v.0 }
+    {
+        SoundChain {
+            image: *self,
+            at: self.head(v),
         }
     }
 
@@ -104,9 +149,7 @@ impl<'a> Layout<'a> {
         requires upper { v.0 ≤ w.0 }
         ensures { NextNeighbour (plan_of (image_of self.now.bytes.now)) v.0 w.0 result }
     {
-        self.chain(v)
-            .find(|far| far.is_some_and(|far| far > w))
-            .flatten()
+        self.sound_chain(v).find(|far| *far > w)
     }
 
     /// Turned down by 6 with the junction of the first faulty chain, or with junction 0 where every

@@ -10,6 +10,7 @@ mod laws;
 mod layout;
 mod reader;
 mod record;
+mod sound_chain;
 #[cfg(test)]
 mod tests;
 mod writer;

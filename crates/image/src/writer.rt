@@ -5,7 +5,7 @@ ghost use Rattle.image.specs.Writing.{chain_to, heads, pipes_to, records_to, upp
 
 use crate::fields::{put, put_all};
 use crate::header::{EDITION, MOST_RECORDS};
-use plan::{Junction, ReadablePlan, Refusal, neighbours_above, pipes};
+use plan::{Junction, ReadablePlan, Refusal, neighbours_above};
 
 /// How many neighbours of v are above it.
 fn upper_count<P: ReadablePlan>(plan: &P, v: Junction) -> usize
@@ -13,6 +13,19 @@ fn upper_count<P: ReadablePlan>(plan: &P, v: Junction) -> usize
     ensures { result ≡ uppers (P.ReadablePlan.meaning plan.now) v.0 (P.ReadablePlan.meaning plan.now).size }
 {
     neighbours_above(plan, v, v).count()
+}
+
+/// How many pipes the plan has.
+fn pipe_count<P: ReadablePlan>(plan: &P) -> usize
+    ensures { result ≡ pipes_to (P.ReadablePlan.meaning plan.now) (P.ReadablePlan.meaning plan.now).size }
+{
+    // By their lower ends, as the records are written, and not by `plan::pipes`, which counts by the
+    // higher: for a lower neighbour a checked image goes through one chain after another.
+    let mut found = 0;
+    for v in 1..plan.size() + 1 {
+        found += upper_count(plan, Junction(v));
+    }
+    found
 }
 
 /// Writes the heads into their stretch, one field for each junction.
@@ -77,7 +90,7 @@ pub fn write<P: ReadablePlan>(plan: &P, out: &mut [u8]) -> Result<usize, Refusal
     ensures { Writing (P.ReadablePlan.meaning plan.now) out.old result out.new }
 {
     let n = plan.size();
-    let records = pipes(plan) as usize;
+    let records = pipe_count(plan);
     if records > usize::from(MOST_RECORDS) {
         return Err(Refusal::TooManyPipes);
     }

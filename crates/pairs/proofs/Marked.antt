@@ -1,13 +1,13 @@
 -- The pairs marked in rows of words, read.
-use Rattle.std.proofs.Common.{◌≡◌, ℕ, ◌+◌, ◌-◌, ◌*◌, ◌/◌, ◌%◌, ◌<◌, ◌≤◌, true, false, ◌⊎◌, List, length, get_or, drop, Some, None, sym, refl, ap, ◌∙◌, inl, inr, arith}
-use Rattle.std.proofs.lemmas.List.{length-take}
+use Rattle.std.proofs.Common.{◌≡◌, ℕ, ◌+◌, ◌-◌, ◌*◌, ◌^◌, ◌/◌, ◌%◌, ◌<◌, ◌≤◌, true, false, ◌⊎◌, List, length, get_or, take, min, Some, None, sym, refl, ap, ◌∙◌, inl, inr, arith}
+use Rattle.std.proofs.lemmas.List.{length-take, get_or-take}
 use Rattle.std.proofs.lemmas.Bool.{cases_lt, both_ways, false_from_ne_true}
 use Rattle.std.proofs.lemmas.Bool.Decides.{nat_tests}
 use Rattle.bitset.specs.Bits.{bit, holds, NextHeld}
 use Rattle.bitset.proofs.BitLaws.{bit_of_zero}
-use Rattle.bitset.proofs.Held.{held_below, none_held, holds_part, holds_past}
+use Rattle.bitset.proofs.Held.{held_below, holds_past}
 use Rattle.plan.specs.Plans.{within}
-use Rattle.pairs.specs.Rows.{number, row_of, marked, NextIn}
+use Rattle.pairs.specs.Rows.{number, marked, NextIn}
 
 pub marked-holds : (rows : List ℕ) (v w : ℕ) → 1 ≤ v → 1 ≤ w → w ≤ 512 → marked rows v w ≡ holds rows (number v w)
 unfolding marked
@@ -42,41 +42,44 @@ marked_blank rows n clear v w l = false_from_ne_true (marked rows v w) (λ t. bo
         let b : marked rows v w ≡ bit (get_or rows (8 * (v - 1) + (w - 1) / 64) 0) ((w - 1) % 64) = rw e at (marked-bit rows v (w - 1) p.0 (omega arith)) in
         b ∙ rw (clear (8 * (v - 1) + (w - 1) / 64) (omega arith)) (bit_of_zero ((w - 1) % 64))
 
--- ---- one row
+-- ---- the words up to the end of a row
 
-module _ (rows : List ℕ) (v : ℕ) where
-  row_length : length (row_of rows v) ≤ 8 * v - 8 * (v - 1)
-  row_length = omega (arith, length-take (8 * v - 8 * (v - 1)) (drop (8 * (v - 1)) rows))
+module _ (rows : List ℕ) (v e : ℕ) (short : e ≡ min (length rows) (8 * v)) where
+  take_length : length (take e rows) ≡ e
+  take_length = omega (arith, length-take e rows, short)
 
-  pub row_holds : (i : ℕ) → i < 512 → holds (row_of rows v) i ≡ marked rows v (i + 1)
-  row_holds i h = go (cases_lt 0 v)
+  holds_taken : (i : ℕ) → i / 64 < e → holds (take e rows) i ≡ holds rows i
+  unfolding holds
+  holds_taken i l = ap (λ x. bit x (i % 64)) (get_or-take e rows (i / 64) 0 l)
+
+  -- what is marked in the row stands in those words
+  marked_taken : (u : ℕ) → 1 ≤ v → 1 ≤ u → u ≤ 512 → marked rows v u ≡ holds (take e rows) (number v u)
+  marked_taken u a b c = go (cases_lt (number v u / 64) e)
     where
-      go : (0 < v) ⊎ (v ≤ 0) → holds (row_of rows v) i ≡ marked rows v (i + 1)
-      go (inl l) =
-          let e : 64 * (8 * (v - 1)) + i ≡ number v (i + 1) = omega arith in
-          holds_part rows (8 * (v - 1)) (8 * v) i (omega arith) ∙ (ap (holds rows) e ∙ sym (marked-holds rows v (i + 1) l (omega arith) (omega arith)))
+      go : (number v u / 64 < e) ⊎ (e ≤ number v u / 64) → marked rows v u ≡ holds (take e rows) (number v u)
+      go (inl l) = marked-holds rows v u a b c ∙ sym (holds_taken (number v u) l)
       go (inr l) =
-          holds_past (row_of rows v) i (omega (arith, row_length)) ∙ sym (marked-outside rows v (i + 1) (λ r. omega arith))
+          marked-holds rows v u a b c ∙ (holds_past rows (number v u) (omega (arith, short)) ∙ sym (holds_past (take e rows) (number v u) (omega (arith, take_length))))
 
-  row_below : (i : ℕ) → holds (row_of rows v) i ≡ true → i < 512
-  row_below i h = omega (arith, held_below (row_of rows v) i h, row_length)
+  found_below : (i : ℕ) → holds (take e rows) i ≡ true → i < 512 * v
+  found_below i h = omega (arith, held_below (take e rows) i h, take_length, short)
 
-  pub row_read : (w : ℕ) → 1 ≤ w → w ≤ 512 → holds (row_of rows v) (w - 1) ≡ marked rows v w
-  row_read w a b = let e : (w - 1) + 1 ≡ w = omega arith in rw e at (row_holds (w - 1) (omega arith))
+  pub next_few : (w i : ℕ) → NextHeld (take e rows) (512 * (v - 1) + w) (Some i) → i - 512 * (v - 1) < 512
+  next_few w i h = omega (arith, found_below i h.1)
 
-  pub next_few : (w i : ℕ) → NextHeld (row_of rows v) w (Some i) → i < 512
-  next_few w i h = row_below i h.1
+  pub next_found : (w i : ℕ) → NextHeld (take e rows) (512 * (v - 1) + w) (Some i) → NextIn (marked rows v) w (Some (record { 0 = i - 512 * (v - 1) + 1 }))
+  next_found w i h =
+      let b : i < 512 * v = found_below i h.1 in
+      let k : number v (i - 512 * (v - 1) + 1) ≡ i = omega (arith, h.0) in (
+        omega (arith, h.0),
+        marked_taken (i - 512 * (v - 1) + 1) (omega arith) (omega arith) (omega (arith, h.0)) ∙ (ap (holds (take e rows)) k ∙ h.1),
+        λ x l m. marked_taken x (omega arith) (omega arith) (omega (arith, h.0)) ∙ h.2 (number v x) (omega arith) (omega (arith, h.0)),
+      )
 
-  pub next_in_row : (w i : ℕ) → NextHeld (row_of rows v) w (Some i) → NextIn (marked rows v) w (Some (record { 0 = i + 1 }))
-  next_in_row w i h = (
-    omega (arith, h.0),
-    sym (row_holds i (row_below i h.1)) ∙ h.1,
-    λ x l k. sym (row_read x (omega arith) (omega (arith, row_below i h.1))) ∙ h.2 (x - 1) (omega arith) (omega arith),
-  )
-
-  pub none_in_row : (w : ℕ) → NextHeld (row_of rows v) w None → NextIn (marked rows v) w None
-  none_in_row w h u l = go (cases_lt 512 u)
+  pub none_found : (w : ℕ) → NextHeld (take e rows) (512 * (v - 1) + w) None → v < 2 ^ 16 → NextIn (marked rows v) w None
+  none_found w h small u l = go (cases_lt 512 u) (cases_lt 0 v)
     where
-      go : (512 < u) ⊎ (u ≤ 512) → marked rows v u ≡ false
-      go (inl k) = marked-outside rows v u (λ r. omega arith)
-      go (inr k) = sym (row_read u (omega arith) k) ∙ none_held (row_of rows v) w h (omega (arith, row_length)) (u - 1) (omega arith)
+      go : (512 < u) ⊎ (u ≤ 512) → (0 < v) ⊎ (v ≤ 0) → marked rows v u ≡ false
+      go (inl k) a = marked-outside rows v u (λ r. omega arith)
+      go (inr k) (inr a) = marked-outside rows v u (λ r. omega arith)
+      go (inr k) (inl a) = marked_taken u a (omega arith) k ∙ h (number v u) (omega arith) (omega arith)

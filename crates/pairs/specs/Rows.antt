@@ -1,6 +1,5 @@
 -- Tables of pairs of junctions in words: the row of v is words 8(v - 1) to 8v - 1, and its bit w - 1 says whether the pair v, w is marked.
 use Rattle.std.specs.Prelude.{◌≡◌, ℕ, ◌+◌, ◌-◌, ◌*◌, ◌/◌, ◌<◌, Bool, true, false, not, ◌&&◌, ◌||◌, List, length, Some, None, Option, ◌≢◌, nat_le, slice_index}
-use Rattle.std.specs.List.{between}
 use Rattle.bitset.specs.Bits.{holds}
 use Rattle.plan.specs.Plans.{within}
 use Rattle.plan.specs.Registers.{same_pair}
@@ -9,10 +8,6 @@ use Rattle.plan.specs.declared.number.Junction.{Junction}
 -- the bit for w in the row of v, counted from the start of the rows
 abbrev pub number : ℕ → ℕ → ℕ
 number v w = 512 * (v - 1) + (w - 1)
-
--- the row of v, as far as the words go
-abbrev pub row_of : List ℕ → ℕ → List ℕ
-row_of rows v = between (8 * (v - 1)) (8 * v) rows
 
 -- v is one of 1 to 512, and the words have its whole row
 abbrev pub has_row : List ℕ → ℕ → Bool

@@ -8,7 +8,7 @@
 mod tests;
 
 ghost use Rattle.std.specs.Prelude.{◌≡◌, ℕ, ◌*◌, ◌<◌, ◌≤◌, ◌&&◌, slice_index, MatchBool};
-ghost use Rattle.pairs.specs.Rows.{number, row_of, has_row, marked, Marks, Unmarks, NextIn};
+ghost use Rattle.pairs.specs.Rows.{number, has_row, marked, Marks, Unmarks, NextIn};
 
 use plan::Junction;
 
@@ -20,15 +20,6 @@ fn number(v: Junction, w: Junction) -> usize
     ensures { result ≡ number v.0 w.0 }
 {
     512 * v.index() + w.index()
-}
-
-// The row of v, as far as the words go; junction 0 has none.
-fn row(words: &[u64], v: Junction) -> &[u64]
-    ensures { result.now ≡ row_of words.now v.0 }
-{
-    let start = words.len().min(ROW * v.index());
-    let end = words.len().min(ROW * usize::from(v.0));
-    &words[start..end]
 }
 
 // Whether v is one of 1 to 512, and the words have its whole row.
@@ -43,15 +34,23 @@ fn has_row(words: &[u64], v: Junction) -> bool
 pub fn is_marked(words: &[u64], v: Junction, w: Junction) -> bool
     ensures { result ≡ marked words.now v.0 w.0 }
 {
-    w.is_within(512) && bitset::contains(row(words, v), w.index())
+    if v.0 == 0 {
+        return false;
+    }
+    w.is_within(512) && bitset::contains(words, number(v, w))
 }
 
 /// The lowest junction above w that is marked in the row of v; `None` where there is none.
+#[inline(always)]
 pub fn next_marked(words: &[u64], v: Junction, w: Junction) -> Option<Junction>
     ensures { NextIn (marked words.now v.0) w.0 result }
 {
-    let i = bitset::next(row(words, v), usize::from(w.0))?;
-    Some(Junction(i as u16 + 1))
+    // Looked for in the words up to the row's end, and not in the row by itself, which would cost a
+    // second bound at each step of a walk.
+    let start = 512 * v.index();
+    let end = words.len().min(ROW * usize::from(v.0));
+    let i = bitset::next(&words[..end], start + usize::from(w.0))?;
+    Some(Junction((i - start) as u16 + 1))
 }
 
 /// Marks the pair v, w in the rows of both. Nothing is changed unless both are of 1 to 512 and the

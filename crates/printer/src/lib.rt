@@ -10,7 +10,7 @@ use edge::{filled, read_input};
 use label::{Count, Either};
 use plan::Junction;
 use std::io;
-use visit::{Listing, Maker, SHEET_LIMIT, visit};
+use visit::{Listing, SHEET_LIMIT, StatedMaker, stated_visit};
 
 /// Prints each answer, as the lines of a listing. It keeps nothing of what it was told, so that it
 /// may have been told anything.
@@ -33,7 +33,7 @@ impl Listener for Printer<'_> {
 
 /// Makes the visit of the sheet that the program's input has, on a set over the maker's register,
 /// and prints its listing. The memory for orders is taken once, for 512 junctions.
-pub fn print_visit<M: Maker + Drop>(rt: &HostRuntime, maker: M) -> io::Result<()> {
+pub fn print_visit<M: StatedMaker + Drop>(rt: &HostRuntime, maker: M) -> io::Result<()> {
     let heap = rt.alloc();
     // One byte more than a sheet can have, so that a longer input is turned down as too long.
     let sheet = read_input(rt, SHEET_LIMIT as u64 + 1)?;
@@ -43,7 +43,7 @@ pub fn print_visit<M: Maker + Drop>(rt: &HostRuntime, maker: M) -> io::Result<()
     let mut labels = filled(heap, Either::Second(Count(0)), 512)?;
     let mut scratch = filled(heap, 0u16, 2 * 512)?;
     let mut printer = Printer { rt };
-    visit(
+    stated_visit(
         &sheet,
         maker,
         &mut printer,

@@ -1,14 +1,7 @@
--- Reading a number.
-use Rattle.std.proofs.Common.{◌≡◌, ℕ, ◌^◌, ◌<◌, ◌≤◌, true, cond, ◌&&◌, leb, List, [], ◌∷◌, length, get_or, decimal, Some, None, Result, Ok, Err, refl, ap, arith, rules}
+-- Reading a number, digit by digit.
+use Rattle.std.proofs.Common.{◌≡◌, ℕ, ◌^◌, ◌<◌, ◌≤◌, true, List, [], ◌∷◌, length, get_or, drop, refl, arith, rules}
 use Rattle.std.proofs.lemmas.Bool.Decides.{nat_tests}
-use Rattle.std.proofs.lemmas.Fmt.{decimal-digits_value, length-decimal-le}
-use Rattle.std.proofs.lemmas.Str.{IsUtf8-from_ascii}
-use Rattle.std.proofs.lemmas.Str.Ascii.{IsAscii-from_reads}
-use Rattle.std.proofs.lemmas.Str.Parse.{IsNumeralModel, numerals_by_fold, parse_digits, digit_at}
-use Rattle.std.specs.List.{list_all}
-use Rattle.std.specs.Result.{OkIff, result_ok}
-use Rattle.std.specs.Str.{IsUtf8}
-use Rattle.std.specs.Str.Parse.{ParsesUnsigned}
+use Rattle.std.proofs.lemmas.Str.Parse.{IsNumeralModel, numerals_by_fold}
 use Rattle.sheet.specs.Fields.{digits, plain, numeral, value_after}
 use Rattle.sheet.proofs.Cutting.{Free}
 
@@ -16,34 +9,17 @@ use Rattle.sheet.proofs.Cutting.{Free}
 pub own : IsNumeralModel (λ ds. digits ds ≡ true) (value_after 0)
 own = numerals_by_fold (λ ds. digits ds ≡ true) (search rules) value_after (search rules)
 
--- digits are the bytes that all pass the test of a digit
-pub digits_all : (text : List ℕ) → digits text ≡ list_all (λ b. leb 48 b && leb b 57) text
-digits_all [] = refl
-digits_all (b ∷ bs) = ap (λ t. (leb 48 b && leb b 57) && t) (digits_all bs)
-
--- digits are text
-pub digits_text : (text : List ℕ) → digits text ≡ true → IsUtf8 text
-digits_text text h = IsUtf8-from_ascii text (IsAscii-from_reads text (length text) (omega arith) (λ k l. omega (arith, digit_at text k (own.to text h) l)))
-
 -- no needless zero in front
 pub alone : (text : List ℕ) → plain text ≡ true → 0 < length text → get_or text 0 0 ≡ 48 → length text ≡ 1
 alone [] h l e = absurd (omega arith)
 alone (b ∷ []) h l e = refl
 alone (b ∷ c ∷ text) h l e = grind (arith, nat_tests)
 
--- a number of at most 65,535 has at most five digits
-few : (text : List ℕ) → plain text ≡ true → digits text ≡ true → 0 < length text → value_after 0 text ≤ 65535 → length text ≤ 5
-few text p d l v =
-    let e : decimal (value_after 0 text) ≡ text = decimal-digits_value own text d l (alone text p l) (omega arith) in
-    omega (arith, ap length e, length-decimal-le 5 (value_after 0 text) (omega arith) (omega arith) (omega arith))
-
--- what parsing digits answers
-pub parsed : {E : Type 0} (text : List ℕ) (r : Result ℕ E) → plain text ≡ true → digits text ≡ true → ParsesUnsigned 16 10 text r → result_ok r ≡ cond (numeral text) (Some (value_after 0 text)) None
-parsed {E} text r p d h = go r (parse_digits own 16 text r h d)
-  where
-    go : (r : Result ℕ E) → OkIff r ((0 < length text) × (value_after 0 text < 2 ^ 16)) (value_after 0 text) → result_ok r ≡ cond (numeral text) (Some (value_after 0 text)) None
-    go (Ok x) k = let l = few text p d k.0.0 in grind (arith, nat_tests)
-    go (Err e) k = grind (arith, nat_tests)
+-- after i digits of a text: their value, and what is left to read
+pub record Valued (text : List ℕ) (i value : ℕ) : Type 0 where
+  pub small : value < 10 ^ i
+  pub whole : value_after value (drop i text) ≡ value_after 0 text
+  pub rest : digits (drop i text) ≡ digits text
 
 -- the rule of a number, by its parts
 pub numeral_from : (text : List ℕ) → 1 ≤ length text → length text ≤ 5 → plain text ≡ true → digits text ≡ true → value_after 0 text ≤ 65535 → numeral text ≡ true

@@ -9,5 +9,5 @@ mod run;
 
 pub use calls::{Answer, Listener, Lists, Outcome};
 pub use listing::Listing;
-pub use maker::Maker;
-pub use run::{KindOfLabel, LabelOfVisit, SHEET_LIMIT, visit};
+pub use maker::{Maker, StatedMaker};
+pub use run::{KindOfLabel, LabelOfVisit, SHEET_LIMIT, stated_visit, visit};

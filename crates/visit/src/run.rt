@@ -8,7 +8,7 @@ ghost use Rattle.calls.specs.Heard.{lists_of};
 ghost use Rattle.visit.specs.Openings.{NewSize, SetCall, SetMade, LineRun, LinesHeard, Opening};
 ghost use Rattle.visit.specs.Visits.{with_set, Visit, Makes};
 
-use crate::maker::Maker;
+use crate::maker::{Maker, StatedMaker};
 use calls::{Call, Listener, Lists, Outcome, run};
 use label::{Count, Counting, Either, Lexicographic, MarkSet};
 use plan::{Junction, Refusal, Register, TurnedDown};
@@ -54,6 +54,24 @@ pub fn visit<M: Maker + Drop, L: Listener>(
         ),
         None => Ok(()),
     }
+}
+
+/// Makes a visit as [`visit`] does, by a maker whose registers are made as it states: what is heard is
+/// then what the ledger says, whatever the sheet.
+// Five slices of memory, for the reason that stands at `order::order`.
+pub fn stated_visit<M: StatedMaker + Drop, L: Listener>(
+    sheet: &[u8],
+    maker: M,
+    listener: &mut L,
+    places: &mut [Junction],
+    ring: &mut [Junction],
+    rows: &mut [u64],
+    labels: &mut [LabelOfVisit],
+    scratch: &mut [u16],
+) -> Result<(), L::Error>
+    ensures { Visit (λ n. short n places.old ring.old rows.old labels.old scratch.old) (M.StatedMaker.spare maker) (M.StatedMaker.full maker) (lists_of places.old ring.old rows.old) sheet.now (lists_of places.new ring.new rows.new) (L.Listener.log listener.old) (L.Listener.log listener.new) labels.old labels.new scratch.old scratch.new result }
+{
+    visit(sheet, maker, listener, places, ring, rows, labels, scratch)
 }
 
 // Reads lines until one makes a set; every other is no call. Answers the set with the lines behind its

@@ -14,7 +14,7 @@ use edge::filled_or_empty;
 use plan::TurnedDown;
 use printer::print_visit;
 use std::io;
-use visit::Maker;
+use visit::{Maker, StatedMaker};
 
 // Makes a bit register in the memory that it holds.
 // It is like the maker of `visit_chained`, but states another spare and another bound of memory: one
@@ -37,6 +37,14 @@ impl Maker for BitMaker {
             },
         })
     }
+}
+
+impl StatedMaker for BitMaker {
+    ghost spare = { λ _ n. n * (n - 1) / 2 };
+
+    ghost full = { λ m n. nat_lt (vec_len m.memory) (8 * n) };
+
+    ghost stated = { λ maker n r made. made };
 }
 
 // Prints the listing of the sheet that standard input, or the file named, has. Without memory for

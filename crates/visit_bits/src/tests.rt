@@ -13,12 +13,13 @@ struct Bits {
     heap: Global,
 }
 
-impl Maker for Bits {
+// A maker that is lent to its visit: it gives itself back where it is turned down.
+impl Maker for &mut Bits {
     type Made = BitRegister;
 
     ghost makes = { λ _ _ _. Unit {0} };
 
-    fn make(self, n: u16) -> Result<BitRegister, TurnedDown<Bits>> {
+    fn make(self, n: u16) -> Result<BitRegister, TurnedDown<Self>> {
         let made = match filled(self.heap, 0, 8 * 512) {
             Ok(memory) => BitRegister::new(n, memory).map_err(|turned| turned.refusal),
             Err(_) => Err(Refusal::ShortMemory),
@@ -56,6 +57,7 @@ fn visits_line_by_line(rt: HostRuntime) -> Result<(), Fail> {
         "J 1 2\nN 513\nN 4\nN 4\nJ 1 2\nJ 2 3\nJ 3 4\nJ 4 1\nL\nK\nS 4\nL\nJ 4 2\nO 4\nC 1 3";
     let lines =
         "no 7\nno 1\nok\nno 7\nok\nok\nok\nok\norder 3 4 2 1\nfill 1 cells 5\nring 1 2 3 4\norder 4 3 2 1\nfill 1 cells 5\nring 1 2 3 4\nok\norder 4 3 2 1\nfill 0 cells 2\nring none\nno 11\nok\nno 13\n";
+    let mut maker = Bits { heap };
     let mut tape = Tape {
         heap,
         text: String::new(heap),
@@ -67,7 +69,7 @@ fn visits_line_by_line(rt: HostRuntime) -> Result<(), Fail> {
     let mut scratch = filled(heap, 0, 8)?;
     let heard = visit(
         sheet.as_bytes(),
-        Bits { heap },
+        &mut maker,
         &mut tape,
         &mut places,
         &mut ring,

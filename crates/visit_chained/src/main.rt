@@ -11,7 +11,7 @@ use edge::filled_or_empty;
 use plan::TurnedDown;
 use printer::print_visit;
 use std::io;
-use visit::Maker;
+use visit::{Maker, StatedMaker};
 
 // The most pipes that the register of a visit takes. `image_order` has this number too, of its own:
 // to share it, a program would depend on a crate that it needs for nothing else.
@@ -38,6 +38,14 @@ impl Maker for ChainedMaker {
             },
         })
     }
+}
+
+impl StatedMaker for ChainedMaker {
+    ghost spare = { λ _ n. 8000 };
+
+    ghost full = { λ m n. nat_lt (vec_len m.memory) (n + 32000) };
+
+    ghost stated = { λ maker n r made. made };
 }
 
 // Prints the listing of the sheet that standard input, or the file named, has. Without memory for
