@@ -12,7 +12,7 @@ ghost use Rattle.visit.specs.Visits.{Making};
 use bits::BitRegister;
 use edge::filled_or_empty;
 use plan::TurnedDown;
-use printer::print_visit;
+use printer::print_stated_visit;
 use std::io;
 use visit::{Maker, StatedMaker};
 
@@ -53,5 +53,5 @@ fn main(rt: HostRuntime) -> io::Result<()> {
     let maker = BitMaker {
         memory: filled_or_empty(rt.alloc(), 0, 8 * 512),
     };
-    print_visit(&rt, maker)
+    print_stated_visit(&rt, maker)
 }

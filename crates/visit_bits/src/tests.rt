@@ -3,14 +3,18 @@ use calls::{Answer, Listener, Lists};
 use edge::filled;
 use label::{Count, Either};
 use plan::{Junction, Refusal, TurnedDown};
+use printer::print_visit;
 use std::alloc::{AllocError, Global};
 use std::test::Fail;
+use std::{env, fs};
 use visit::{Listing, Maker, visit};
 
-// Makes bit registers, each in memory of its own, and promises nothing of them.
+// Makes bit registers, each in memory of its own, and promises nothing of them. It keeps the n that it
+// was asked for last.
 #[derive(Drop)]
 struct Bits {
     heap: Global,
+    asked: u16,
 }
 
 // A maker that is lent to its visit: it gives itself back where it is turned down.
@@ -20,6 +24,7 @@ impl Maker for &mut Bits {
     ghost makes = { λ _ _ _. Unit {0} };
 
     fn make(self, n: u16) -> Result<BitRegister, TurnedDown<Self>> {
+        self.asked = n;
         let made = match filled(self.heap, 0, 8 * 512) {
             Ok(memory) => BitRegister::new(n, memory).map_err(|turned| turned.refusal),
             Err(_) => Err(Refusal::ShortMemory),
@@ -57,7 +62,7 @@ fn visits_line_by_line(rt: HostRuntime) -> Result<(), Fail> {
         "J 1 2\nN 513\nN 4\nN 4\nJ 1 2\nJ 2 3\nJ 3 4\nJ 4 1\nL\nK\nS 4\nL\nJ 4 2\nO 4\nC 1 3";
     let lines =
         "no 7\nno 1\nok\nno 7\nok\nok\nok\nok\norder 3 4 2 1\nfill 1 cells 5\nring 1 2 3 4\norder 4 3 2 1\nfill 1 cells 5\nring 1 2 3 4\nok\norder 4 3 2 1\nfill 0 cells 2\nring none\nno 11\nok\nno 13\n";
-    let mut maker = Bits { heap };
+    let mut maker = Bits { heap, asked: 0 };
     let mut tape = Tape {
         heap,
         text: String::new(heap),
@@ -79,5 +84,24 @@ fn visits_line_by_line(rt: HostRuntime) -> Result<(), Fail> {
     );
     assert!(rt; heard.is_ok());
     assert!(rt; tape.text.as_str() == lines);
+    Ok(())
+}
+
+// A test is run with its own name as its one argument, so that it can write the file that it names.
+#[test]
+fn prints_the_visit_of_a_file(rt: HostRuntime) -> Result<(), Fail> {
+    let name = env::args(&rt)?.nth(1);
+    assert!(rt; name.is_some());
+    let name = name.unwrap_or(String::new(rt.alloc()));
+    fs::write(&rt, name.as_str(), "J 1 2\nN 513\nN 4\nJ 1 2\nN 5\n")?;
+    let mut maker = Bits {
+        heap: rt.alloc(),
+        asked: 0,
+    };
+    let printed = print_visit(&rt, &mut maker);
+    fs::remove_file(&rt, name.as_str())?;
+    assert!(rt; printed.is_ok());
+    // The line behind the one that made the set asked for none.
+    assert_eq!(rt; maker.asked, 4);
     Ok(())
 }

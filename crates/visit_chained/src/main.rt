@@ -9,7 +9,7 @@ ghost use Rattle.visit.specs.Visits.{Making};
 use chained::ChainedRegister;
 use edge::filled_or_empty;
 use plan::TurnedDown;
-use printer::print_visit;
+use printer::print_stated_visit;
 use std::io;
 use visit::{Maker, StatedMaker};
 
@@ -54,5 +54,5 @@ fn main(rt: HostRuntime) -> io::Result<()> {
     let maker = ChainedMaker {
         memory: filled_or_empty(rt.alloc(), 0, 512 + 4 * usize::from(PIPES)),
     };
-    print_visit(&rt, maker)
+    print_stated_visit(&rt, maker)
 }
