@@ -101,7 +101,7 @@ fn prints_the_visit_of_a_file(rt: HostRuntime) -> Result<(), Fail> {
     let printed = print_visit(&rt, &mut maker);
     fs::remove_file(&rt, name.as_str())?;
     assert!(rt; printed.is_ok());
-    // The line behind the one that made the set asked for none.
+    // The line `N 5` came after the set was made, and is no call then.
     assert_eq!(rt; maker.asked, 4);
     Ok(())
 }
